@@ -15,8 +15,7 @@ use crate::route::Route;
 // The place of the first route that is not between two stations, its lower end first, or not after the route ahead of it.
 pub fn first_unordered(stations: u8, routes: &[Route]) -> Option<usize>
     ensures place { λ r. ⌜ r ≡ first-unordered stations (now (routes .entry)) ⌝ }
-    ensures none { λ r. ⌜ (r ≡ None → ordered stations (ends (now (routes .entry))) ≡ true) ⌝ }
-    ensures every { λ r. ⌜ (ordered stations (ends (now (routes .entry))) ≡ true → r ≡ None) ⌝ }
+    ensures exact { λ r. ⌜ (r ≡ None → ordered stations (ends (now (routes .entry))) ≡ true) × (ordered stations (ends (now (routes .entry))) ≡ true → r ≡ None) ⌝ }
 {
     for i in 0..routes.len() {
         if !is_in_order(stations, routes, i) {
