@@ -2,11 +2,12 @@
 use Prim.Native.Nat.{ℕ, zero, suc, _+_, _-_, _≤_, _<_}
 use native.Mathlib.Omega.{arith}
 use mathlib.Core.Path.{_≡_, _∙_, ap, sym, refl, subst}
-use mathlib.Core.Bool.{Bool, true, false, cond}
+use mathlib.Core.Bool.{Bool, true, false, not, cond}
 use mathlib.Core.Logic.{⊎-elim}
 use Rattle.std.specs.declared.option.Option.{Option}
 use Rattle.std.specs.declared.option.Option.the-variants.{Some, None}
-use Rattle.std.proofs.shelf.Tests.{cond-true, cond-false, cases-bool, cases-eq}
+use Rattle.std.specs.Options.{isSome}
+use Rattle.std.proofs.shelf.Tests.{cond-true, cond-false, cases-bool, cases-eq, not-true, not-false}
 use Rattle.routes.specs.Tests.{or-else, first, unless, first-failing}
 
 -- ---- the steps of a loop that looks for the first answer
@@ -91,3 +92,9 @@ some-fails p (suc k) i x e =
 
 pub first-failing-some : (p : ℕ → Bool) (n x : ℕ) → first-failing p n ≡ Some x → (x < n) × (p x ≡ false) × ((j : ℕ) → j < x → p j ≡ true)
 first-failing-some p n x e = let r = some-fails p n 0 x e in (omega (arith, r .0), r .1, λ j u. r .2 j (omega arith) u)
+
+-- ---- `is_none` answers the test that passes exactly where there is no answer
+pub is-none-test : {X : Type 0} (o : Option X) (b x : Bool) → (o ≡ None → x ≡ true) → (x ≡ true → o ≡ None) → isSome o ≡ not b → b ≡ x
+is-none-test None b x p q e = not-false b (sym e) ∙ sym (p refl)
+is-none-test (Some y) b x p q e =
+    ⊎-elim (λ t. let n = q t in absurd (let z : _≡_ {A = ℕ} 0 1 = cc in omega arith)) (λ f. not-true b (sym e) ∙ sym f) (cases-bool x)
