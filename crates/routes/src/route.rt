@@ -1,5 +1,4 @@
 ghost use mathlib.Core.Path.{_≡_};
-ghost use lib.ListN.{length, getD};
 ghost use Rattle.routes.specs.Order.{pair, before, inside};
 ghost use Rattle.routes.specs.Groups.{side, fits, placed, whole};
 use crate::checks::has_member;
