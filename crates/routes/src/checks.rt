@@ -37,9 +37,9 @@ fn is_in_order(stations: u8, routes: &[Route], i: usize) -> bool
 pub fn first_misplaced(routes: &[Route], groups: &[Group]) -> Option<usize>
     ensures { λ r. ⌜ r ≡ first-misplaced (now (routes .entry)) (now (groups .entry)) ⌝ }
 {
-    for (i, route) in routes.iter().enumerate() {
+    for (place, route) in routes.iter().enumerate() {
         if !route.is_placed(groups) {
-            return Some(i);
+            return Some(place);
         }
     }
     None
