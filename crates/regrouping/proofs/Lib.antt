@@ -1,0 +1,9 @@
+pub mod Tables
+pub mod Live
+pub mod Keeps
+pub mod Runs
+pub mod Written
+pub mod Decomposes
+pub mod Done
+pub mod Regroups
+pub mod Finish
