@@ -7,3 +7,6 @@ pub mod Decomposes
 pub mod Done
 pub mod Regroups
 pub mod Finish
+pub mod Finds
+pub mod Meets
+pub mod Counts
