@@ -18,17 +18,9 @@ use Rattle.routes.specs.Order.{no-route, ends}
 use Rattle.routes.specs.Groups.{fits, side, placed, whole, wholes}
 use Rattle.regrouping.specs.Table.{on, joins, remains, degree, loose}
 use Rattle.regrouping.specs.Steps.{Work, work, in-group, marked, mark, write, rounds, Ready}
+use Rattle.routes.proofs.Lists.{every-map, some-map}
 use Rattle.regrouping.proofs.Keeps.{ends-mark}
 use Rattle.regrouping.proofs.Written.{New, keeps-rounds}
-
-pub every-map : {X : Type 0} (p q : X → Bool) (f : X → X) → ((x : X) → p x ≡ true → q (f x) ≡ true) → (t : List X) → every p t ≡ true → every q (map f t) ≡ true
-every-map p q f h [] e = refl
-every-map p q f h (x ∷ xs) e = let u = and-parts (p x) (every p xs) e in and-from (q (f x)) (every q (map f xs)) (h x (u .0)) (every-map p q f h xs (u .1))
-
-pub some-map : {X : Type 0} (p q : X → Bool) (f : X → X) → ((x : X) → p x ≡ true → q (f x) ≡ true) → (t : List X) → some p t ≡ true → some q (map f t) ≡ true
-some-map p q f h [] e = e
-some-map p q f h (x ∷ xs) e =
-    ⊎-elim (λ u. or-left (q (f x)) (some q (map f xs)) (h x u)) (λ u. or-right (q (f x)) (some q (map f xs)) (some-map p q f h xs u)) (or-cases (p x) (some p xs) e)
 
 -- ---- the routes that are in a group fit it
 abbrev pub held : List Group → Route → Bool

@@ -9,37 +9,15 @@ use lib.Dec.{eqb}
 use lib.ListN.{length, getD}
 use Rattle.std.specs.declared.option.Option.{Option}
 use Rattle.std.specs.declared.option.Option.the-variants.{Some, None}
-use Rattle.std.proofs.shelf.Lists.{length-map}
 use Rattle.std.proofs.shelf.Ways.{tells}
 use Rattle.std.proofs.shelf.Tests.{and-parts, or-from, cond-true, cond-false, cases-bool, cases-lt}
 use Rattle.routes.specs.declared.route.Route.{Route}
 use Rattle.routes.specs.Tests.{every, some}
 use Rattle.routes.specs.Order.{no-route, pair, ends, before, ascending}
 use Rattle.routes.specs.Groups.{side}
+use Rattle.routes.proofs.Orders.{ascends-at}
 use Rattle.regrouping.specs.Table.{joins, remains}
 use Rattle.regrouping.specs.Pairs.{from}
-
-pub every-at : {X : Type 0} (p : X → Bool) (xs : List X) (i : ℕ) (d : X) → i < length xs → every p xs ≡ true → p (getD xs i d) ≡ true
-every-at p [] i d h e = absurd (omega arith)
-every-at p (x ∷ xs) zero d h e = and-parts (p x) _ e .0
-every-at p (x ∷ xs) (suc i) d h e = every-at p xs i d (omega arith) (and-parts (p x) _ e .1)
-
-pub getD-ends : (t : List Route) (k : ℕ) → getD (ends t) k (0, 0) ≡ pair (getD t k no-route)
-getD-ends [] k = refl
-getD-ends (r ∷ rs) zero = refl
-getD-ends (r ∷ rs) (suc k) = getD-ends rs k
-
-head-before : (r : Route) (rs : List Route) (k : ℕ) → ascending (ends (r ∷ rs)) ≡ true → k < length rs → before (pair r) (pair (getD rs k no-route)) ≡ true
-head-before r rs k e h =
-    let u = every-at (before (pair r)) (ends rs) k (0, 0) (omega (arith, length-map rs pair)) (and-parts (every (before (pair r)) (ends rs)) _ e .0) in
-    subst (λ x. before (pair r) x ≡ true) (getD-ends rs k) u
-
--- an earlier route is before a later one
-pub ascends-at : (t : List Route) (j k : ℕ) → ascending (ends t) ≡ true → j < k → k < length t → before (pair (getD t j no-route)) (pair (getD t k no-route)) ≡ true
-ascends-at [] j k e l h = absurd (omega arith)
-ascends-at (r ∷ rs) zero (suc k) e l h = head-before r rs k e (omega arith)
-ascends-at (r ∷ rs) (suc j) (suc k) e l h = ascends-at rs j k (and-parts (every (before (pair r)) (ends rs)) _ e .1) (omega arith) (omega arith)
-ascends-at (r ∷ rs) j zero e l h = absurd (omega arith)
 
 -- the route that was found is the only one
 pub from-at : (t : List Route) (k a b : ℕ) → ascending (ends t) ≡ true → k < length t → side a b (getD t k no-route) ≡ true → from t a b ≡ Some (getD t k no-route .group)

@@ -11,6 +11,7 @@ use Rattle.std.specs.declared.option.Option.{Option}
 use Rattle.std.specs.declared.option.Option.the-variants.{Some, None}
 use Rattle.std.specs.shelf.Lists.{All}
 use Rattle.std.proofs.shelf.Ways.{tells}
+use Rattle.std.proofs.shelf.Elements.{all-weaker}
 use Rattle.std.proofs.shelf.Lists.{length-push, length-map}
 use Rattle.std.proofs.shelf.Tests.{cond-both, both-ways, or-cases, and-parts, cases-eq, cases-bool, cond-true, cond-false, eqb-true, eqb-false, ltb-true}
 use Rattle.routes.specs.declared.route.Route.{Route}
@@ -20,7 +21,7 @@ use Rattle.routes.specs.Tests.{every, first, or-else}
 use Rattle.routes.specs.Order.{no-route, pair, ends, inside, ordered}
 use Rattle.routes.specs.Groups.{fits}
 use Rattle.regrouping.specs.Table.{on, degree, joins, remains, loose, two-of, answer, lone, leaf, triangle, third, second, lowest, best, best-from, weight}
-use Rattle.regrouping.specs.Steps.{Work, work, in-group, marked, mark, live, write, mate, leaves, triangles, star, both, heaviest, round, rounds, some-open, Ready}
+use Rattle.regrouping.specs.Steps.{Work, work, in-group, marked, mark, live, write, mate, leaves, triangles, star, both, heaviest, round, rounds, some-open, Inside, Ready}
 use Rattle.regrouping.proofs.Live.{degree-mark-le, degree-star, loose-spent, live-less}
 
 -- ---- cases of an answer
@@ -72,10 +73,6 @@ pub ends-mark : (k : Group) (g : ℕ) (t : List Route) → ends (mark k g t) ≡
 ends-mark k g [] = refl
 ends-mark k g (r ∷ rs) = let e = ends-marked k g r in let i = ends-mark k g rs in cc
 
--- two stations below n, the lower first
-abbrev pub Inside : ℕ → Route → Type 0
-Inside n r = (r .low < r .high) × (r .high < n)
-
 pub inside-all : (n : ℕ) (t : List Route) → every (inside n) (ends t) ≡ true → All (Inside n) t
 inside-all n [] e = tt
 inside-all n (r ∷ rs) e =
@@ -85,6 +82,10 @@ inside-all n (r ∷ rs) e =
 
 pub ready-inside : (n : ℕ) (w : Work) → Ready n w → All (Inside n) (w .table)
 ready-inside n w r = inside-all n (w .table) (and-parts (every (inside n) (ends (w .table))) _ (r .ordered) .0)
+
+-- a station number is below 32
+pub ready-low : (n : ℕ) (w : Work) → Ready n w → All (Inside 32) (w .table)
+ready-low n w r = all-weaker (Inside n) (Inside 32) (λ x h. (h .0, omega (arith, h .1, r .stations))) (w .table) (ready-inside n w r)
 
 degree-below : (t : List Route) (n s : ℕ) → All (Inside n) t → 0 < degree t s → s < n
 degree-below [] n s a h = absurd (omega arith)

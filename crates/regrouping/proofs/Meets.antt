@@ -9,7 +9,6 @@ use lib.Dec.{eqb, ltb}
 use lib.ListN.{length, getD}
 use Rattle.std.specs.declared.option.Option.{Option}
 use Rattle.std.specs.declared.option.Option.the-variants.{Some, None}
-use Rattle.std.proofs.shelf.Lists.{length-map}
 use Rattle.std.proofs.shelf.Ways.{tells}
 use Rattle.std.proofs.shelf.Tests.{and-parts, cases-lt, ltb-true}
 use Rattle.routes.specs.declared.route.Route.{Route}
@@ -19,13 +18,11 @@ use Rattle.routes.specs.Tests.{every}
 use Rattle.routes.specs.Order.{no-route, pair, ends, inside, ordered}
 use Rattle.routes.specs.Groups.{side, fits, placed, decomposed}
 use Rattle.regrouping.specs.Pairs.{from, between}
-use Rattle.regrouping.proofs.Finds.{every-at, getD-ends, from-some}
+use Rattle.routes.proofs.Lists.{every-at}
+use Rattle.routes.proofs.Orders.{inside-at}
+use Rattle.regrouping.proofs.Finds.{from-some}
 
 -- ---- the ends of a route that was found
-inside-at : (n : ℕ) (t : List Route) (k : ℕ) → ordered n (ends t) ≡ true → k < length t → inside n (pair (getD t k no-route)) ≡ true
-inside-at n t k o h =
-    subst (λ x. inside n x ≡ true) (getD-ends t k) (every-at (inside n) (ends t) k (0, 0) (omega (arith, length-map t pair)) (and-parts (every (inside n) (ends t)) _ o .0))
-
 from-inside : (n : ℕ) (t : List Route) (a b g : ℕ) → ordered n (ends t) ≡ true → from t a b ≡ Some g → (a < b) × (b < n)
 from-inside n t a b g o e =
     let q = from-some t a b g e in

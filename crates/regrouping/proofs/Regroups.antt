@@ -18,6 +18,7 @@ use Rattle.routes.specs.Order.{ends, inside, ordered}
 use Rattle.routes.specs.Groups.{placed, wholes, decomposed}
 use Rattle.regrouping.specs.Steps.{Work, work, in-group, opened, start, rounds, regrouped, live, Ready}
 use Rattle.regrouping.specs.Laws.{Regroups}
+use Rattle.routes.proofs.Orders.{length-ends}
 use Rattle.regrouping.proofs.Live.{live-small}
 use Rattle.regrouping.proofs.Keeps.{ready-rounds}
 use Rattle.regrouping.proofs.Decomposes.{held, Partly, partly-rounds}
@@ -30,9 +31,6 @@ ends-opened (r ∷ rs) = ap (λ es. (r .low, r .high) ∷ es) (ends-opened rs)
 held-opened : (t : List Route) → every (held []) (opened t) ≡ true
 held-opened [] = refl
 held-opened (r ∷ rs) = held-opened rs
-
-length-ends : (t : List Route) → length (ends t) ≡ length t
-length-ends t = length-map t (λ r. (r .low, r .high))
 
 placed-all : (gs : List Group) (t : List Route) → Closed t → every (held gs) t ≡ true → every (placed gs) t ≡ true
 placed-all gs [] h e = refl

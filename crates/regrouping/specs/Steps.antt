@@ -1,5 +1,5 @@
 -- How the routes are grouped: the three rules, as a run over the routes and the groups written so far.
-use Prim.Native.Nat.{ℕ, zero, suc, _+_, _≤_}
+use Prim.Native.Nat.{ℕ, zero, suc, _+_, _<_, _≤_}
 use mathlib.Core.Path.{_≡_}
 use mathlib.Core.Bool.{Bool, true, _&&_, cond}
 use mathlib.Core.List.{List, [], _∷_, _++_, map}
@@ -92,6 +92,10 @@ regrouped n t = rounds n n (start t)
 abbrev pub live : List Route → ℕ → ℕ
 live t zero = 0
 live t (suc n) = cond (eqb (degree t n) 0) 0 1 + live t n
+
+-- two stations below n, the lower first
+abbrev pub Inside : ℕ → Route → Type 0
+Inside n r = (r .low < r .high) × (r .high < n)
 
 -- what every step keeps: the routes are in order, and there is room for one group for each station with a remaining route
 pub record Ready (n : ℕ) (w : Work) : Type 0 where
