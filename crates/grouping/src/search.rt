@@ -10,22 +10,6 @@ ghost use Rattle.regrouping.specs.Steps.{Inside, mate, some-open};
 use crate::pairs::is_open;
 use routes::route::Route;
 
-// How many remaining routes each station has.
-pub(crate) fn count_routes(routes: &[Route]) -> [u16; 32]
-    requires inside { ⌜ All (Inside 32) (now routes) ⌝ }
-    requires short { ⌜ length (now routes) ≤ 496 ⌝ }
-    ensures { λ d. ⌜ Counted d (now (routes .entry)) ⌝ }
-{
-    let mut degrees = [0u16; 32];
-    for r in routes {
-        if r.group == 255 {
-            degrees[r.low as usize] += 1;
-            degrees[r.high as usize] += 1;
-        }
-    }
-    degrees
-}
-
 // The leaf: the lowest station below n with exactly one remaining route.
 pub(crate) fn lowest_leaf(degrees: &[u16; 32], n: u8) -> Option<u8>
     requires { ⌜ n ≤ 32 ⌝ }

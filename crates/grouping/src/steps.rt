@@ -10,7 +10,8 @@ ghost use Rattle.regrouping.specs.Table.{Counted, degree};
 ghost use Rattle.regrouping.specs.Steps.{Inside, Ready, leaves, mark, opened, regrouped, round, rounds, star, triangles, work, write};
 use crate::search::any_open;
 use crate::search::best_route;
-use crate::search::count_routes;
+use crate::degrees::count_routes;
+use crate::degrees::one_less;
 use crate::search::first_triangle;
 use crate::search::lowest_leaf;
 use crate::search::other_end;
@@ -27,9 +28,8 @@ pub(crate) fn take_routes(routes: &mut [Route], degrees: &mut [u16; 32], k: Grou
 {
     for r in routes.iter_mut() {
         if r.group == 255 && r.fits(k) {
+            one_less(degrees, *r);
             r.group = g;
-            degrees[r.low as usize] -= 1;
-            degrees[r.high as usize] -= 1;
         }
     }
 }

@@ -18,7 +18,7 @@ use Rattle.routes.specs.declared.route.Route.{Route}
 use Rattle.routes.specs.declared.route.Group.{Group}
 use Rattle.routes.specs.declared.route.Group.the-variants.{Star, Triangle}
 use Rattle.routes.specs.Tests.{every, first, or-else}
-use Rattle.routes.specs.Order.{no-route, pair, ends, inside, ordered}
+use Rattle.routes.specs.Order.{no-route, pair, ends, inside, ascending, ordered}
 use Rattle.routes.specs.Groups.{fits}
 use Rattle.regrouping.specs.Table.{on, degree, joins, remains, loose, two-of, answer, lone, leaf, triangle, third, second, lowest, best, best-from, weight}
 use Rattle.regrouping.specs.Steps.{Work, work, in-group, marked, mark, live, write, mate, leaves, triangles, star, both, heaviest, round, rounds, some-open, Inside, Ready}
@@ -82,6 +82,9 @@ inside-all n (r ∷ rs) e =
 
 pub ready-inside : (n : ℕ) (w : Work) → Ready n w → All (Inside n) (w .table)
 ready-inside n w r = inside-all n (w .table) (and-parts (every (inside n) (ends (w .table))) _ (r .ordered) .0)
+
+pub ready-ascending : (n : ℕ) (w : Work) → Ready n w → ascending (ends (w .table)) ≡ true
+ready-ascending n w r = and-parts (every (inside n) (ends (w .table))) _ (r .ordered) .1
 
 -- a station number is below 32
 pub ready-low : (n : ℕ) (w : Work) → Ready n w → All (Inside 32) (w .table)

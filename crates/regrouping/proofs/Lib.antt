@@ -10,3 +10,4 @@ pub mod Finish
 pub mod Finds
 pub mod Meets
 pub mod Counts
+pub mod Marks

@@ -15,9 +15,13 @@ use Rattle.routes.specs.Groups.{side}
 abbrev pub remaining : Route → Bool
 remaining r = eqb (r .group) 255
 
+-- s is an end of the route
+abbrev pub touches : ℕ → Route → Bool
+touches s r = eqb (r .low) s || eqb (r .high) s
+
 -- the route remains, and s is an end of it
 abbrev pub on : ℕ → Route → Bool
-on s r = remaining r && (eqb (r .low) s || eqb (r .high) s)
+on s r = remaining r && touches s r
 
 -- how many routes of s remain
 abbrev pub degree : List Route → ℕ → ℕ

@@ -10,8 +10,8 @@ loop-r-again c = grind (arith, tells, mate-more (c .args .routes .now) (c .loop-
 pub returns-then-r-s : need.returns-then-r-s
 returns-then-r-s c = grind (arith, tells, mate-more (c .args .routes .now) (c .loop-r .r-index) (c .args .s) (c .loop-r-test .taken))
 
-pub returns-else-r-s : need.returns-else-r-s
-returns-else-r-s c = grind (arith, tells, mate-more (c .args .routes .now) (c .loop-r .r-index) (c .args .s) (c .loop-r-test .taken))
+pub returns-then-r-s-2 : need.returns-then-r-s-2
+returns-then-r-s-2 c = grind (arith, tells, mate-more (c .args .routes .now) (c .loop-r .r-index) (c .args .s) (c .loop-r-test .taken))
 
 pub returns : need.returns
 returns c = sym (c .loop-r .inv ∙ mate-all (c .args .routes .now) (c .loop-r .r-index) (c .args .s) (c .loop-r-test .left))
