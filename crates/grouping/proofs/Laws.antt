@@ -40,11 +40,12 @@ meet-shares e f m = grind (arith, tells)
 pub group-lawful : (n : ℕ) (t : List Route) (gs : List Group) → n ≤ 32 → length gs ≤ 32 → ordered n (ends t) ≡ true → decomposed t gs ≡ true → Lawful (group-meaning (given n t gs))
 group-lawful n t gs few few-groups o d =
     record {
-    few-stations = few;
-    few-dials = few-groups;
-    inside = λ a b h. not-route (between t a b) (λ g e. omega (arith, between-inside n t a b g o e .0));
-    reversed = λ a b. ap dial (between-comm t a b);
-    no-loop = λ a. not-route (between t a a) (λ g e. between-inside n t a a g o e .2 refl);
-    dial-in = λ a b k h. between-group gs t a b k d (names-some (between t a b) k h);
-    apart = λ a b. one-apart (between t a b);
-    common = λ e f k g h. meet-shares e f (groups-meet t gs d (e .0) (e .1) (f .0) (f .1) k (names-some (between t (e .0) (e .1)) k g) (names-some (between t (f .0) (f .1)) k h)) }
+      few-stations = few;
+      few-dials = few-groups;
+      inside = λ a b h. not-route (between t a b) (λ g e. omega (arith, between-inside n t a b g o e .0));
+      reversed = λ a b. ap dial (between-comm t a b);
+      no-loop = λ a. not-route (between t a a) (λ g e. between-inside n t a a g o e .2 refl);
+      dial-in = λ a b k h. between-group gs t a b k d (names-some (between t a b) k h);
+      apart = λ a b. one-apart (between t a b);
+      common = λ e f k g h. meet-shares e f (groups-meet t gs d (e .0) (e .1) (f .0) (f .1) k (names-some (between t (e .0) (e .1)) k g) (names-some (between t (f .0) (f .1)) k h));
+    }

@@ -53,7 +53,11 @@ impl GroupPlan {
         ensures { λ r. ⌜ contents r ≡ nothing ⌝ }
     {
         let GroupRoom { routes, groups } = room;
-        GroupPlan { stations: 0, routes, groups }
+        GroupPlan {
+            stations: 0,
+            routes,
+            groups,
+        }
     }
 
     pub fn routes(&self) -> &[Route]
@@ -87,7 +91,10 @@ impl GroupPlan {
         ensures filled { λ r. ⌜ (r ≡ true → contents (now (self .exit)) ≡ given stations (now (routes .entry)) (now (groups .entry))) ⌝ }
         ensures refused { λ r. ⌜ (r ≡ false → now (self .exit) ≡ now (self .entry)) ⌝ }
     {
-        if !is_acceptable(stations, routes) || groups.len() > 32 || !is_decomposition(routes, groups) {
+        if !is_acceptable(stations, routes)
+            || groups.len() > 32
+            || !is_decomposition(routes, groups)
+        {
             return false;
         }
         copy_routes(&mut self.routes, routes);

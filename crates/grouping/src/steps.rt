@@ -8,10 +8,10 @@ ghost use Rattle.std.specs.shelf.Lists.{All};
 ghost use Rattle.routes.specs.Order.{ends, ordered};
 ghost use Rattle.regrouping.specs.Table.{Counted, degree};
 ghost use Rattle.regrouping.specs.Steps.{Inside, Ready, leaves, mark, opened, regrouped, round, rounds, star, triangles, work, write};
-use crate::search::any_open;
-use crate::search::best_route;
 use crate::degrees::count_routes;
 use crate::degrees::one_less;
+use crate::search::any_open;
+use crate::search::best_route;
 use crate::search::first_triangle;
 use crate::search::lowest_leaf;
 use crate::search::other_end;
@@ -35,7 +35,12 @@ pub(crate) fn take_routes(routes: &mut [Route], degrees: &mut [u16; 32], k: Grou
 }
 
 // Writes one group more, with the remaining routes that fit it.
-pub(crate) fn write_group(routes: &mut [Route], groups: &mut Vec<Group>, degrees: &mut [u16; 32], k: Group)
+pub(crate) fn write_group(
+    routes: &mut [Route],
+    groups: &mut Vec<Group>,
+    degrees: &mut [u16; 32],
+    k: Group,
+)
     requires inside { ⌜ All (Inside 32) (now routes) ⌝ }
     requires counted { ⌜ Counted (now degrees) (now routes) ⌝ }
     requires room { ⌜ vec-len (now groups) < vec-cap (now groups) ⌝ }
@@ -50,7 +55,12 @@ pub(crate) fn write_group(routes: &mut [Route], groups: &mut Vec<Group>, degrees
 }
 
 // The leaf rule: while a station has exactly one remaining route, a star at the other end of the lowest such station's route.
-pub(crate) fn take_leaves(routes: &mut [Route], groups: &mut Vec<Group>, degrees: &mut [u16; 32], n: u8)
+pub(crate) fn take_leaves(
+    routes: &mut [Route],
+    groups: &mut Vec<Group>,
+    degrees: &mut [u16; 32],
+    n: u8,
+)
     requires cap { ⌜ 32 ≤ vec-cap (now groups) ⌝ }
     requires ready { ⌜ Ready n (work (now routes) (vec-items (now groups))) ⌝ }
     requires counted { ⌜ Counted (now degrees) (now routes) ⌝ }
@@ -69,7 +79,12 @@ pub(crate) fn take_leaves(routes: &mut [Route], groups: &mut Vec<Group>, degrees
 }
 
 // The loose triangle rule: the first loose triangle, while there is one.
-pub(crate) fn take_triangles(routes: &mut [Route], groups: &mut Vec<Group>, degrees: &mut [u16; 32], n: u8)
+pub(crate) fn take_triangles(
+    routes: &mut [Route],
+    groups: &mut Vec<Group>,
+    degrees: &mut [u16; 32],
+    n: u8,
+)
     requires cap { ⌜ 32 ≤ vec-cap (now groups) ⌝ }
     requires ready { ⌜ Ready n (work (now routes) (vec-items (now groups))) ⌝ }
     requires counted { ⌜ Counted (now degrees) (now routes) ⌝ }
@@ -103,7 +118,12 @@ pub(crate) fn star_at(routes: &mut [Route], groups: &mut Vec<Group>, degrees: &m
 }
 
 // The three rules in turn, once; of the heaviest route's ends the lower comes first.
-pub(crate) fn one_round(routes: &mut [Route], groups: &mut Vec<Group>, degrees: &mut [u16; 32], n: u8)
+pub(crate) fn one_round(
+    routes: &mut [Route],
+    groups: &mut Vec<Group>,
+    degrees: &mut [u16; 32],
+    n: u8,
+)
     requires cap { ⌜ 32 ≤ vec-cap (now groups) ⌝ }
     requires ready { ⌜ Ready n (work (now routes) (vec-items (now groups))) ⌝ }
     requires counted { ⌜ Counted (now degrees) (now routes) ⌝ }

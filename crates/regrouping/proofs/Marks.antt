@@ -33,6 +33,7 @@ module _ (k : Group) (g : ℕ) (s t : List Route) (i : ℕ) (h : i < length s) (
 -- a route that remains counts at both its ends
 pub ends-live : (t : List Route) (i : ℕ) → i < length t → remaining (getD t i no-route) ≡ true → (0 < degree t (getD t i no-route .low)) × (0 < degree t (getD t i no-route .high))
 ends-live t i h p =
-    let r = getD t i no-route in
-    (degree-at t i (r .low) h (and-from (remaining r) (touches (r .low) r) p (or-left (eqb (r .low) (r .low)) (eqb (r .high) (r .low)) (eq-eqb (r .low) (r .low) refl))),
-    degree-at t i (r .high) h (and-from (remaining r) (touches (r .high) r) p (or-right (eqb (r .low) (r .high)) (eqb (r .high) (r .high)) (eq-eqb (r .high) (r .high) refl))))
+    let r = getD t i no-route in (
+      degree-at t i (r .low) h (and-from (remaining r) (touches (r .low) r) p (or-left (eqb (r .low) (r .low)) (eqb (r .high) (r .low)) (eq-eqb (r .low) (r .low) refl))),
+      degree-at t i (r .high) h (and-from (remaining r) (touches (r .high) r) p (or-right (eqb (r .low) (r .high)) (eqb (r .high) (r .high)) (eq-eqb (r .high) (r .high) refl))),
+    )

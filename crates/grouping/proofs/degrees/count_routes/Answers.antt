@@ -31,9 +31,10 @@ one-more-requires c κs =
 pub loop-r-again : need.loop-r-again
 loop-r-again c =
     let t = c .args .routes .now in
-    elim (c .if-r .came)
-    [ then-r w ↦ (ap length (w .degrees-is) ∙ w .one-more .array-long, λ s h. count-in t (c .loop-r .r-index) s _ _ (c .loop-r-test .taken) (eq-eqb _ _ (w .if-r .taken)) (c .loop-r .inv .1 s h) (ap (λ d. getD d s 0) (w .degrees-is) ∙ w .one-more .ensures s))
-    | else-r w ↦ (ap length (w .degrees-is) ∙ c .loop-r .inv .0, λ s h. count-over t (c .loop-r .r-index) s _ (c .loop-r-test .taken) (ne-eqb _ _ (w .if-r .left)) (ap (λ d. getD d s 0 + degree (drop (c .loop-r .r-index) t) s) (w .degrees-is) ∙ c .loop-r .inv .1 s h)) ]
+    elim (c .if-r .came) [
+      | then-r w ↦ (ap length (w .degrees-is) ∙ w .one-more .array-long, λ s h. count-in t (c .loop-r .r-index) s _ _ (c .loop-r-test .taken) (eq-eqb _ _ (w .if-r .taken)) (c .loop-r .inv .1 s h) (ap (λ d. getD d s 0) (w .degrees-is) ∙ w .one-more .ensures s))
+      | else-r w ↦ (ap length (w .degrees-is) ∙ c .loop-r .inv .0, λ s h. count-over t (c .loop-r .r-index) s _ (c .loop-r-test .taken) (ne-eqb _ _ (w .if-r .left)) (ap (λ d. getD d s 0 + degree (drop (c .loop-r .r-index) t) s) (w .degrees-is) ∙ c .loop-r .inv .1 s h))
+    ]
 
 pub returns : need.returns
 returns c s h = omega (arith, c .loop-r .inv .1 s h, degree-all (c .args .routes .now) (c .loop-r .r-index) s (c .loop-r-test .left))

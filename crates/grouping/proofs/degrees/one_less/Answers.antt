@@ -16,5 +16,5 @@ returns c s =
     let d = c .args .degrees .now in
     both-less (touches s r) (getD d s 0)
     (λ e. ⊎-elim (λ u. subst (λ k. 0 < getD d k 0) (eqb-true (r .low) s u) (c .pre .some .0)) (λ u. subst (λ k. 0 < getD d k 0) (eqb-true (r .high) s u) (c .pre .some .1))
-        (or-cases (eqb (r .low) s) (eqb (r .high) s) e)) ∙
+    (or-cases (eqb (r .low) s) (eqb (r .high) s) e)) ∙
     ap (λ x. x + cond (touches s r) 1 0) (sym (both-changed (λ x. x - 1) d (r .low) (r .high) s (c .pre .inside .0) (omega (arith, c .pre .inside .1, c .told-degrees))))

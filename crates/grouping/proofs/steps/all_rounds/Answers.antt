@@ -17,5 +17,5 @@ returns-then-not-any-open c =
 pub loop-turn-again : need.loop-turn-again
 loop-turn-again c =
     let q = rounds-turn (c .args .n) (c .loop-turn .turn) _ (work (c .loop-turn .routes) (vec-items (c .loop-turn .groups))) _
-        (c .loop-turn-test .taken) (c .loop-turn .inv .0) (c .loop-turn .inv .1) (sym (c .any-open .ensures) ∙ c .if-not-any-open .left) (c .one-round .ensures .written) in
-    (q .0, q .1, c .one-round .ensures .capacity ∙ c .loop-turn .inv .2, c .one-round .array-long, c .one-round .ensures .counted)
+    (c .loop-turn-test .taken) (c .loop-turn .inv .0) (c .loop-turn .inv .1) (sym (c .any-open .ensures) ∙ c .if-not-any-open .left) (c .one-round .ensures .written) in
+    (q .0, q .1, c .one-round .ensures .capacity ∙ c .loop-turn .inv .2, c .one-round .ensures .counted)

@@ -1,6 +1,5 @@
 use Prim.Native.Nat.{_-_}
 use mathlib.Core.Path.{_≡_}
-use lib.ListN.{length}
 use Rattle.std.specs.Of.Vec.{vec-items, vec-cap}
 use Rattle.regrouping.specs.Table.{Counted}
 use Rattle.regrouping.specs.Steps.{work, rounds, Ready}
@@ -11,5 +10,4 @@ Inv-loop-turn l =
     (rounds (l .n) (l .n) (work (l .entry .routes) (vec-items (l .entry .groups))) ≡ rounds (l .n - l .turn) (l .n) (work (l .routes) (vec-items (l .groups))))
     × Ready (l .n) (work (l .routes) (vec-items (l .groups)))
     × (vec-cap (l .groups) ≡ vec-cap (l .entry .groups))
-    × (length (l .degrees) ≡ 32)
     × Counted (l .degrees) (l .routes)

@@ -9,5 +9,7 @@ use Rattle.grouping.proofs.steps.regroup_routes.Needs as need
 pub all-rounds-requires : need.all-rounds-requires
 all-rounds-requires c κs =
     let e : work (opened (c .args .routes .now)) [] ≡ work (c .open-routes .last .routes) (vec-items (c .clear .last .self)) = cc in
-    record { cap = omega (arith, c .clear .ensures .capacity, c .pre .cap);
-    ready = subst (Ready (c .args .n)) e (start-ready (c .args .n) (c .args .routes .now) (c .pre .few .0) (c .pre .few .1) (c .pre .ordered)) }
+    record {
+      cap = omega (arith, c .clear .ensures .capacity, c .pre .cap);
+      ready = subst (Ready (c .args .n)) e (start-ready (c .args .n) (c .args .routes .now) (c .pre .few .0) (c .pre .few .1) (c .pre .ordered));
+    }

@@ -19,5 +19,5 @@ write-group-requires c κs =
 pub loop-turn-again : need.loop-turn-again
 loop-turn-again c =
     let q = leaves-turn (c .args .n) (c .loop-turn .turn) (c .in-Some .s) (c .other-end-c .result) _ (work (c .loop-turn .routes) (vec-items (c .loop-turn .groups))) _
-        (c .loop-turn-test .taken) (c .loop-turn .inv .0) (c .loop-turn .inv .1) (c .in-Some .ensures tt ∙ leaf-counted (c .loop-turn .degrees) (c .loop-turn .routes) (c .args .n) (c .loop-turn .inv .1 .stations) (c .loop-turn .inv .3)) (c .other-end-c .ensures) (c .write-group .ensures .written) in
+    (c .loop-turn-test .taken) (c .loop-turn .inv .0) (c .loop-turn .inv .1) (c .in-Some .ensures tt ∙ leaf-counted (c .loop-turn .degrees) (c .loop-turn .routes) (c .args .n) (c .loop-turn .inv .1 .stations) (c .loop-turn .inv .3)) (c .other-end-c .ensures) (c .write-group .ensures .written) in
     (q .0, q .1, c .write-group .ensures .capacity ∙ c .loop-turn .inv .2, c .write-group .ensures .counted)
