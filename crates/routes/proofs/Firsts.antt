@@ -92,6 +92,17 @@ fails-some p (suc k) i x l h b f =
 pub first-failing-at : (p : ℕ → Bool) (n x : ℕ) → x < n → ((j : ℕ) → j < x → p j ≡ true) → p x ≡ false → first-failing p n ≡ Some x
 first-failing-at p n x h b f = fails-some p n 0 x (omega arith) (omega arith) (λ j u v. b j v) f
 
+-- ---- two tests that agree fail first at the same number
+first-same : {X : Type 0} (f h : ℕ → Option X) (k i : ℕ) → ((j : ℕ) → i ≤ j → j < i + k → f j ≡ h j) → first f k i ≡ first h k i
+first-same f h zero i e = refl
+first-same f h (suc k) i e =
+    let a = e i (omega arith) (omega arith) in
+    let b = first-same f h k (i + 1) (λ j l u. e j (omega arith) (omega arith)) in
+    cc
+
+pub first-failing-same : (p q : ℕ → Bool) (n : ℕ) → ((i : ℕ) → i < n → p i ≡ q i) → first-failing p n ≡ first-failing q n
+first-failing-same p q n e = first-same (unless p) (unless q) n 0 (λ j l u. ap (λ b. cond b None (Some j)) (e j (omega arith)))
+
 -- ---- `is_none` answers the test that passes exactly where there is no answer
 pub is-none-test : {X : Type 0} (o : Option X) (b x : Bool) → (o ≡ None → x ≡ true) → (x ≡ true → o ≡ None) → isSome o ≡ not b → b ≡ x
 is-none-test None b x p q e = not-false b (sym e) ∙ sym (p refl)

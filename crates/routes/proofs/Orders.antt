@@ -1,20 +1,21 @@
 -- Whether a table is in order, from its places.
 use Prim.Native.Nat.{ℕ, zero, suc, _+_, _-_, _≤_, _<_}
 use native.Mathlib.Omega.{arith}
-use mathlib.Core.Path.{_≡_, _∙_, ap, sym, refl, subst}
-use mathlib.Core.Bool.{Bool, true, false, _&&_, _||_}
+use mathlib.Core.Path.{_≡_, _∙_, sym, refl, subst}
+use mathlib.Core.Bool.{true, false}
 use mathlib.Core.List.{List, [], _∷_}
 use mathlib.Core.Logic.{⊎-elim}
-use lib.Dec.{eqb, ltb}
+use lib.Dec.{eqb}
 use lib.ListN.{length, getD}
 use Rattle.std.specs.declared.option.Option.{Option}
 use Rattle.std.specs.declared.option.Option.the-variants.{None}
 use Rattle.std.proofs.shelf.Lists.{length-map}
 use Rattle.std.proofs.shelf.Ways.{tells}
-use Rattle.std.proofs.shelf.Tests.{and-parts, and-from, or-cases, or-left, or-right, eqb-true, both-ways, cases-order}
+use Rattle.std.proofs.shelf.Tests.{and-parts, and-from, or-cases, or-right, eqb-true, both-ways, cases-order, cases-lt}
 use Rattle.routes.specs.declared.route.Route.{Route}
 use Rattle.routes.specs.Tests.{every}
 use Rattle.routes.specs.Order.{no-route, pair, ends, before, inside, ascending, ordered, in-order, first-unordered}
+use Rattle.routes.specs.Groups.{side}
 use Rattle.routes.proofs.Firsts.{first-failing-none, first-failing-passes}
 use Rattle.routes.proofs.Lists.{every-at}
 
@@ -62,6 +63,17 @@ same-place t j k e h l s =
     (⊎-elim (λ u. both-ways _ x (subst (λ y. before y (pair (getD t k no-route)) ≡ true) s (ascends-at t j k e u l)))
     (λ u. both-ways _ x (subst (λ y. before (pair (getD t k no-route)) y ≡ true) s (ascends-at t k j e u h))) q))
     (cases-order j k)
+
+-- ---- where the route from a to b cannot be, by one look at the place m: the step of a search that halves the table
+pub skip-low : (t : List Route) (m a b : ℕ) → ascending (ends t) ≡ true → m < length t → before (pair (getD t m no-route)) (a, b) ≡ true → (k : ℕ) → k < m + 1 → side a b (getD t k no-route) ≡ false
+skip-low t m a b e h l k p =
+    ⊎-elim (λ q. let u = ascends-at t k m e q h in grind (arith, tells))
+    (λ q. let z : m ≡ k = omega arith in subst (λ x. side a b (getD t x no-route) ≡ false) z (grind (arith, tells))) (cases-lt k m)
+
+pub skip-high : (t : List Route) (m a b : ℕ) → ascending (ends t) ≡ true → before (pair (getD t m no-route)) (a, b) ≡ false → side a b (getD t m no-route) ≡ false → (k : ℕ) → m ≤ k → k < length t → side a b (getD t k no-route) ≡ false
+skip-high t m a b e l s k p h =
+    ⊎-elim (λ q. let u = ascends-at t m k e q h in grind (arith, tells))
+    (λ q. let z : m ≡ k = omega arith in subst (λ x. side a b (getD t x no-route) ≡ false) z s) (cases-lt m k)
 
 -- ---- from the places to the table
 pub inside-from : (n : ℕ) (t : List Route) → ((k : ℕ) → k < length t → inside n (pair (getD t k no-route)) ≡ true) → every (inside n) (ends t) ≡ true

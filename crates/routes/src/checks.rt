@@ -7,7 +7,7 @@ ghost use Rattle.std.specs.Orderings.{Decides};
 ghost use Rattle.std.specs.declared.option.Option.the-variants.{None};
 ghost use Rattle.routes.specs.Tests.{some};
 ghost use Rattle.routes.specs.Order.{ends, ordered, in-order, first-unordered};
-ghost use Rattle.routes.specs.Groups.{has-side, first-misplaced, first-incomplete, decomposed};
+ghost use Rattle.routes.specs.Groups.{has-side, whole, first-misplaced, first-incomplete, decomposed};
 ghost use Rattle.routes.specs.Decomposition.{Decomposition};
 use crate::route::Group;
 use crate::route::Route;
@@ -37,9 +37,9 @@ fn is_in_order(stations: u8, routes: &[Route], i: usize) -> bool
 pub fn first_misplaced(routes: &[Route], groups: &[Group]) -> Option<usize>
     ensures { λ r. ⌜ r ≡ first-misplaced (now (routes .entry)) (now (groups .entry)) ⌝ }
 {
-    for (i, route) in routes.iter().enumerate() {
+    for (place, route) in routes.iter().enumerate() {
         if !route.is_placed(groups) {
-            return Some(i);
+            return Some(place);
         }
     }
     None
@@ -65,8 +65,24 @@ pub fn is_decomposition(routes: &[Route], groups: &[Group]) -> bool
     first_misplaced(routes, groups).is_none() && first_incomplete(routes, groups).is_none()
 }
 
+impl Group {
+    // Whether the group of this number has the routes that it must have: one at least of a star, the three of a triangle.
+    fn is_whole(self, number: usize, routes: &[Route]) -> bool
+        ensures { λ r. ⌜ r ≡ whole self number (now (routes .entry)) ⌝ }
+    {
+        match self {
+            Group::Star(_) => has_member(routes, number),
+            Group::Triangle(a, b, c) => {
+                has_side(routes, number, a, b)
+                    && has_side(routes, number, a, c)
+                    && has_side(routes, number, b, c)
+            }
+        }
+    }
+}
+
 // Whether a route names the group of this number.
-pub(crate) fn has_member(routes: &[Route], number: usize) -> bool
+fn has_member(routes: &[Route], number: usize) -> bool
     ensures { λ r. ⌜ r ≡ some (λ x. eqb (x .group) number) (now (routes .entry)) ⌝ }
 {
     for route in routes {
@@ -78,7 +94,7 @@ pub(crate) fn has_member(routes: &[Route], number: usize) -> bool
 }
 
 // Whether the group of this number has the side from a to b.
-pub(crate) fn has_side(routes: &[Route], number: usize, a: u8, b: u8) -> bool
+fn has_side(routes: &[Route], number: usize, a: u8, b: u8) -> bool
     ensures { λ r. ⌜ r ≡ has-side (now (routes .entry)) number a b ⌝ }
 {
     for route in routes {

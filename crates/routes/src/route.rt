@@ -1,9 +1,6 @@
 ghost use mathlib.Core.Path.{_≡_};
-ghost use lib.ListN.{length, getD};
 ghost use Rattle.routes.specs.Order.{pair, before, inside};
-ghost use Rattle.routes.specs.Groups.{side, fits, placed, whole};
-use crate::checks::has_member;
-use crate::checks::has_side;
+ghost use Rattle.routes.specs.Groups.{side, fits, placed};
 
 // A route (an edge of the communication topology) between two stations, its lower end first, and the number of its group.
 #[derive(Clone, Copy)]
@@ -60,21 +57,5 @@ impl Route {
     {
         let number = usize::from(self.group);
         number < groups.len() && self.fits(groups[number])
-    }
-}
-
-impl Group {
-    // Whether the group of this number has the routes that it must have: one at least of a star, the three of a triangle.
-    pub(crate) fn is_whole(self, number: usize, routes: &[Route]) -> bool
-        ensures { λ r. ⌜ r ≡ whole self number (now (routes .entry)) ⌝ }
-    {
-        match self {
-            Group::Star(_) => has_member(routes, number),
-            Group::Triangle(a, b, c) => {
-                has_side(routes, number, a, b)
-                    && has_side(routes, number, a, c)
-                    && has_side(routes, number, b, c)
-            }
-        }
     }
 }

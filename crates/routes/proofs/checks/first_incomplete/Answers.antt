@@ -1,6 +1,6 @@
 use borrow.Author.Count.{below-more}
 use native.Mathlib.Omega.{arith}
-use mathlib.Core.Path.{_≡_, sym}
+use mathlib.Core.Path.{_≡_}
 use mathlib.Core.Bool.{true}
 use lib.ListN.{length, getD}
 use Rattle.routes.specs.declared.route.Group.the-variants.{Star}
@@ -13,8 +13,10 @@ loop-number-again c = below-more (λ k. whole (getD (c .args .groups .now) k (St
 
 pub returns-then-not-is-whole : need.returns-then-not-is-whole
 returns-then-not-is-whole c =
-    sym (first-failing-at (λ k. whole (getD (c .args .groups .now) k (Star 0)) k (c .args .routes .now)) (length (c .args .groups .now)) (c .loop-number .number) (omega arith) (c .loop-number .inv) (cc))
+    let e = first-failing-at (λ k. whole (getD (c .args .groups .now) k (Star 0)) k (c .args .routes .now)) (length (c .args .groups .now)) (c .loop-number .number) (omega arith) (c .loop-number .inv) (cc) in
+    cc
 
 pub returns : need.returns
 returns c =
-    sym (first-failing-passes (λ k. whole (getD (c .args .groups .now) k (Star 0)) k (c .args .routes .now)) (length (c .args .groups .now)) (λ k h. c .loop-number .inv k (omega arith)))
+    let e = first-failing-passes (λ k. whole (getD (c .args .groups .now) k (Star 0)) k (c .args .routes .now)) (length (c .args .groups .now)) (λ k h. c .loop-number .inv k (omega arith)) in
+    cc

@@ -6,5 +6,5 @@ use Rattle.routes.specs.Order.{no-route}
 use Rattle.routes.specs.Groups.{placed}
 use Rattle.routes.proofs.checks.first_misplaced.Given as given
 
-abbrev pub Inv-loop-i : given.InvT-loop-i
-Inv-loop-i l = (k : ℕ) → k < l .i → placed (l .groups) (getD (l .routes) k no-route) ≡ true
+abbrev pub Inv-loop-place : given.InvT-loop-place
+Inv-loop-place l = (k : ℕ) → k < l .place → placed (l .groups) (getD (l .routes) k no-route) ≡ true
