@@ -2,12 +2,15 @@
 ghost use Prim.Native.Nat.{_≤_};
 ghost use mathlib.Core.Path.{_≡_};
 ghost use mathlib.Core.Bool.{false, true};
+ghost use mathlib.Core.List.{map};
 ghost use lib.ListN.{length};
 ghost use Rattle.std.specs.Of.Vec.{vec-cap, vec-items};
+ghost use Rattle.plans.specs.Meaning.{empty-meaning};
 ghost use Rattle.routes.specs.Order.{ends};
+ghost use Rattle.routes.specs.Groups.{told};
 ghost use Rattle.routes.specs.Decomposition.{Decomposition};
 ghost use Rattle.regrouping.specs.Laws.{Rules-finish};
-ghost use Rattle.grouping.specs.Plan.{acceptable, acceptable-grouped, built, contents, given, nothing};
+ghost use Rattle.grouping.specs.Plan.{acceptable, acceptable-grouped, built, contents, given, group-meaning, nothing};
 use crate::plan::GroupPlan;
 use crate::room::GroupRoom;
 use crate::steps::regroup_routes;
@@ -50,7 +53,8 @@ pub(crate) fn is_acceptable(stations: u8, routes: &[Route]) -> bool
 impl GroupPlan {
     // The empty plan.
     pub fn new(room: GroupRoom) -> GroupPlan
-        ensures { λ r. ⌜ contents r ≡ nothing ⌝ }
+        ensures contents { λ r. ⌜ contents r ≡ nothing ⌝ }
+        ensures meaning { λ r. ⌜ group-meaning (contents r) ≡ empty-meaning ⌝ }
     {
         let GroupRoom { routes, groups } = room;
         GroupPlan {
@@ -60,14 +64,17 @@ impl GroupPlan {
         }
     }
 
+    // The routes, in ascending order, each with its group's number.
     pub fn routes(&self) -> &[Route]
         ensures { λ r. ⌜ now r ≡ contents (now (self .entry)) .routes ⌝ }
     {
         &self.routes
     }
 
+    // The groups, by their numbers: an edge decomposition of the routes.
     pub fn groups(&self) -> &[Group]
         ensures groups { λ r. ⌜ now r ≡ contents (now (self .entry)) .groups ⌝ }
+        ensures told { λ r. ⌜ map told (now r) ≡ map told (contents (now (self .entry)) .groups) ⌝ }
         ensures decomposition { λ r. ⌜ Decomposition (contents (now (self .entry)) .routes) (now r) ⌝ }
     {
         &self.groups

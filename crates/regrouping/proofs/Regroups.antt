@@ -60,18 +60,24 @@ regroups n t few short o =
       split = and-from _ _ (placed-all (regrouped n t .groups) (regrouped n t .table) (live-closed n (regrouped n t) d z) (q .1)) (q .2);
     }
 
--- what a plan keeps, for a table and groups that are the outcome
-pub sound : (n : ℕ) (t ws : List Route) (gs : List Group) → work ws gs ≡ regrouped n t → n ≤ 32 → length t ≤ 496 → ordered n (ends t) ≡ true →
-    (length ws ≤ 496) × (length gs ≤ 32) × (ordered n (ends ws) ≡ true) × (decomposed ws gs ≡ true) × (length ws ≡ length t)
-sound n t ws gs e few short o =
-    let q : Regroups t (work ws gs) = subst (Regroups t) (sym e) (regroups n t few short o) in
-    (omega (arith, q .short), q .few, ap (ordered n) (q .same) ∙ o, q .split, q .short)
+-- the routes ws and the groups gs are the outcome of regrouping the routes t over n stations: what a plan keeps of it
+pub record Outcome (n : ℕ) (t ws : List Route) (gs : List Group) : Type 0 where
+  pub written : work ws gs ≡ regrouped n t
+  pub same : ends ws ≡ ends t
+  pub short : length ws ≤ 496
+  pub few : length gs ≤ 32
+  pub ordered : ordered n (ends ws) ≡ true
+  pub split : decomposed ws gs ≡ true
 
--- a Vec of length n that was lent as a slice and came back as ws
-pub refilled-same : (n : ℕ) (ws old : List Route) → length ws ≡ n → take n (ws ++ drop (length ws) old) ≡ ws
-refilled-same n ws old h = take-at ws (drop (length ws) old) n h
+module _ (n : ℕ) (t : List Route) (few : n ≤ 32) (short : length t ≤ 496) (o : ordered n (ends t) ≡ true) where
+  outcome : (ws : List Route) (gs : List Group) → work ws gs ≡ regrouped n t → Outcome n t ws gs
+  outcome ws gs e =
+      let q : Regroups t (work ws gs) = subst (Regroups t) (sym e) (regroups n t few short o) in
+      record { written = e; same = q .same; short = omega (arith, q .short); few = q .few; ordered = ap (ordered n) (q .same) ∙ o; split = q .split }
 
-pub came-back : (n len : ℕ) (t ws old : List Route) (gs : List Group) → work ws gs ≡ regrouped n t → n ≤ 32 → length t ≤ 496 → ordered n (ends t) ≡ true → len ≡ length t →
-    work (take len (ws ++ drop (length ws) old)) gs ≡ regrouped n t
-came-back n len t ws old gs e few short o l =
-    let q = sound n t ws gs e few short o in ap (λ x. work x gs) (refilled-same len ws old (q .4 ∙ sym l)) ∙ e
+  -- the routes u, which are t, were lent as the slice of a Vec of length len, and came back as ws
+  pub came-back : (len : ℕ) (u ws old : List Route) (gs : List Group) → work ws gs ≡ regrouped n u → u ≡ t → len ≡ length t → Outcome n t (take len (ws ++ drop (length ws) old)) gs
+  came-back len u ws old gs e z l =
+      let q = outcome ws gs (e ∙ ap (regrouped n) z) in
+      let k : length ws ≡ len = sym (length-ends ws) ∙ (ap length (q .same) ∙ (length-ends t ∙ sym l)) in
+      subst (λ x. Outcome n t x gs) (sym (take-at ws (drop (length ws) old) len k)) q

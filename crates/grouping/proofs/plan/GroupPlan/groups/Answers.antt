@@ -1,5 +1,7 @@
-use mathlib.Core.Path.{sym, subst}
+use mathlib.Core.Path.{ap, sym, subst}
+use mathlib.Core.List.{map}
 use Rattle.std.specs.Of.Vec.{vec-items}
+use Rattle.routes.specs.Groups.{told}
 use Rattle.routes.specs.Decomposition.{Decomposition}
 use Rattle.routes.proofs.Decompositions.{decomposition-from}
 use Rattle.grouping.proofs.plan.GroupPlan.groups.Needs as need
@@ -9,5 +11,6 @@ returns c =
     let p = c .args .self .now in
     record {
       groups = c .deref .ensures .value;
+      told = ap (map told) (c .deref .ensures .value);
       decomposition = subst (Decomposition (vec-items (p .routes))) (sym (c .deref .ensures .value)) (decomposition-from (vec-items (p .routes)) (vec-items (p .groups)) (p .decomposed));
     }

@@ -1,10 +1,8 @@
 use native.Mathlib.Omega.{arith}
-use mathlib.Core.Path.{_≡_, _∙_, ap}
+use mathlib.Core.Path.{ap}
 use Rattle.std.specs.Of.Vec.{vec-items}
-use Rattle.routes.specs.Order.{ends}
 use Rattle.routes.proofs.Decompositions.{decomposition-from}
-use Rattle.regrouping.specs.Steps.{work, regrouped}
-use Rattle.regrouping.proofs.Regroups.{regroups, sound, came-back}
+use Rattle.regrouping.proofs.Regroups.{came-back}
 use Rattle.regrouping.proofs.Finish.{rules-finish}
 use Rattle.grouping.specs.Plan.{given}
 use Rattle.grouping.proofs.plan.GroupPlan.regroup.Needs as need
@@ -12,25 +10,17 @@ use Rattle.grouping.proofs.plan.GroupPlan.regroup.Needs as need
 pub ghost-self : need.ghost-self
 ghost-self c =
     let p = c .args .self .now in
-    let t = vec-items (p .routes) in
-    let gs = vec-items (c .regroup-routes .last .groups) in
-    let e : work (c .regroup-routes .last .routes) gs ≡ regrouped (p .stations) t = c .regroup-routes .ensures .written ∙ ap (regrouped (p .stations)) (c .deref-mut .ensures .value) in
-    let b = came-back (p .stations) (p .routes .len) t (c .regroup-routes .last .routes) (p .routes .items) gs e (p .few .0) (p .few .1) (p .ordered) (p .routes .ok .0) in
-    let q = sound (p .stations) t _ _ b (p .few .0) (p .few .1) (p .ordered) in
-    ((p .few .0, q .0, q .1), ((p .room .0, omega (arith, c .regroup-routes .ensures .capacity, p .room .1)), (q .2, (q .3, tt))))
+    let q = came-back (p .stations) (vec-items (p .routes)) (p .few .0) (p .few .1) (p .ordered) (p .routes .len) _ (c .regroup-routes .last .routes) (p .routes .items) (vec-items (c .regroup-routes .last .groups)) (c .regroup-routes .ensures .written) (c .deref-mut .ensures .value) (p .routes .ok .0) in
+    ((p .few .0, q .short, q .few), ((p .room .0, omega (arith, c .regroup-routes .ensures .capacity, p .room .1)), (q .ordered, (q .split, tt))))
 
 pub returns : need.returns
 returns c =
     let p = c .args .self .now in
-    let t = vec-items (p .routes) in
-    let gs = vec-items (c .regroup-routes .last .groups) in
-    let e : work (c .regroup-routes .last .routes) gs ≡ regrouped (p .stations) t = c .regroup-routes .ensures .written ∙ ap (regrouped (p .stations)) (c .deref-mut .ensures .value) in
-    let b = came-back (p .stations) (p .routes .len) t (c .regroup-routes .last .routes) (p .routes .items) gs e (p .few .0) (p .few .1) (p .ordered) (p .routes .ok .0) in
-    let q = sound (p .stations) t _ _ b (p .few .0) (p .few .1) (p .ordered) in
+    let q = came-back (p .stations) (vec-items (p .routes)) (p .few .0) (p .few .1) (p .ordered) (p .routes .len) _ (c .regroup-routes .last .routes) (p .routes .items) (vec-items (c .regroup-routes .last .groups)) (c .regroup-routes .ensures .written) (c .deref-mut .ensures .value) (p .routes .ok .0) in
     record {
-      built = ap (λ w. given (p .stations) (w .table) (w .groups)) b;
-      same = ap (λ w. ends (w .table)) b ∙ regroups (p .stations) t (p .few .0) (p .few .1) (p .ordered) .same;
-      decomposition = decomposition-from _ _ (q .3);
-      few = q .1;
-      finish = rules-finish (p .stations) t (p .few .0) (p .few .1) (p .ordered);
+      built = ap (λ w. given (p .stations) (w .table) (w .groups)) (q .written);
+      same = q .same;
+      decomposition = decomposition-from _ _ (q .split);
+      few = q .few;
+      finish = rules-finish (p .stations) (vec-items (p .routes)) (p .few .0) (p .few .1) (p .ordered);
     }
