@@ -1,0 +1,3 @@
+//! The day file: its layout, its check, and its records.
+pub mod layout;
+pub mod refusal;
