@@ -1,3 +1,4 @@
 //! The day file: its layout, its check, and its records.
 pub mod layout;
 pub mod refusal;
+mod tables;
