@@ -1,3 +1,4 @@
 pub mod Verdict
 pub mod Layout
 pub mod Tables
+pub mod Check
