@@ -25,12 +25,13 @@ pub fn check_file(bytes: &[u8]) -> Result<Layout, FileRefusal>
     ensures groups { λ r. ⌜ Judges-groups (now (bytes .entry)) r ⌝ }
 {
     let layout = check_layout(bytes)?;
+    let (route_count, group_count) = (layout.routes.count, layout.groups.count);
     let route_table = decode_routes(bytes, layout);
-    let routes = &route_table[0..layout.routes.count];
+    let routes = &route_table[0..route_count];
     refuse_route(layout, Refusal::RouteOrder, first_unordered(layout.stations, routes))?;
     refuse_group(layout, Refusal::GroupRecord, first_no_group(bytes, layout))?;
     let group_table = decode_groups(bytes, layout);
-    let groups = &group_table[0..layout.groups.count];
+    let groups = &group_table[0..group_count];
     refuse_route(layout, Refusal::RouteGroup, first_unfit(routes, groups))?;
     refuse_group(layout, Refusal::GroupIncomplete, first_incomplete(routes, groups))?;
     Ok(layout)
