@@ -2,11 +2,12 @@
 use Prim.Native.Nat.{ℕ, zero, suc, _+_, _-_, _≤_, _<_}
 use native.Mathlib.Omega.{arith}
 use mathlib.Core.Path.{_≡_, _∙_, ap, sym, refl, subst}
-use mathlib.Core.Bool.{Bool, true, false, cond}
+use mathlib.Core.Bool.{Bool, true, false, not, cond}
 use mathlib.Core.Logic.{⊎-elim}
 use Rattle.std.specs.declared.option.Option.{Option}
 use Rattle.std.specs.declared.option.Option.the-variants.{Some, None}
-use Rattle.std.proofs.shelf.Tests.{cond-true, cond-false, cases-bool, cases-eq}
+use Rattle.std.specs.Options.{isSome}
+use Rattle.std.proofs.shelf.Tests.{cond-true, cond-false, cases-bool, cases-eq, not-true, not-false}
 use Rattle.routes.specs.Tests.{or-else, first, unless, first-failing}
 
 -- ---- the steps of a loop that looks for the first answer
@@ -35,19 +36,6 @@ unless-passes p i e = cond-true (p i) None (Some i) e
 
 pub unless-fails : (p : ℕ → Bool) (i : ℕ) → p i ≡ false → unless p i ≡ Some i
 unless-fails p i e = cond-false (p i) None (Some i) e
-
--- ---- the loop that looks for the first number at which a test fails: its start, its steps and its end
-pub failing-none : (p : ℕ → Bool) (n : ℕ) → first-failing p n ≡ first (unless p) (n - 0) 0
-failing-none p n = let e : n - 0 ≡ n = omega arith in rw e
-
-pub failing-more : (p : ℕ → Bool) (n i : ℕ) → i < n → p i ≡ true → first (unless p) (n - i) i ≡ first (unless p) (n - (i + 1)) (i + 1)
-failing-more p n i h e = first-skip (unless p) n i h (unless-passes p i e)
-
-pub failing-hit : (p : ℕ → Bool) (n i : ℕ) → i < n → p i ≡ false → first (unless p) (n - i) i ≡ Some i
-failing-hit p n i h e = first-hit (unless p) n i i h (unless-fails p i e)
-
-pub failing-all : (p : ℕ → Bool) (n i : ℕ) → n ≤ i → first (unless p) (n - i) i ≡ None
-failing-all p n i h = first-all (unless p) n i h
 
 -- ---- no first failing number: the test passes at each
 none-passes : (p : ℕ → Bool) (k i : ℕ) → first (unless p) k i ≡ None → (j : ℕ) → i ≤ j → j < i + k → p j ≡ true
@@ -91,3 +79,21 @@ some-fails p (suc k) i x e =
 
 pub first-failing-some : (p : ℕ → Bool) (n x : ℕ) → first-failing p n ≡ Some x → (x < n) × (p x ≡ false) × ((j : ℕ) → j < x → p j ≡ true)
 first-failing-some p n x e = let r = some-fails p n 0 x e in (omega (arith, r .0), r .1, λ j u. r .2 j (omega arith) u)
+
+fails-some : (p : ℕ → Bool) (k i x : ℕ) → i ≤ x → x < i + k → ((j : ℕ) → i ≤ j → j < x → p j ≡ true) → p x ≡ false → first (unless p) k i ≡ Some x
+fails-some p zero i x l h b f = absurd (omega arith)
+fails-some p (suc k) i x l h b f =
+    ⊎-elim (λ q. ap (λ o. or-else o (first (unless p) k (i + 1))) (unless-fails p i (subst (λ y. p y ≡ false) (sym q) f) ∙ ap Some q))
+    (λ q.
+    ap (λ o. or-else o (first (unless p) k (i + 1))) (unless-passes p i (b i (omega arith) (omega arith))) ∙
+    fails-some p k (i + 1) x (omega arith) (omega arith) (λ j u v. b j (omega arith) v) f)
+    (cases-eq i x)
+
+pub first-failing-at : (p : ℕ → Bool) (n x : ℕ) → x < n → ((j : ℕ) → j < x → p j ≡ true) → p x ≡ false → first-failing p n ≡ Some x
+first-failing-at p n x h b f = fails-some p n 0 x (omega arith) (omega arith) (λ j u v. b j v) f
+
+-- ---- `is_none` answers the test that passes exactly where there is no answer
+pub is-none-test : {X : Type 0} (o : Option X) (b x : Bool) → (o ≡ None → x ≡ true) → (x ≡ true → o ≡ None) → isSome o ≡ not b → b ≡ x
+is-none-test None b x p q e = not-false b (sym e) ∙ sym (p refl)
+is-none-test (Some y) b x p q e =
+    ⊎-elim (λ t. let n = q t in absurd (let z : _≡_ {A = ℕ} 0 1 = cc in omega arith)) (λ f. not-true b (sym e) ∙ sym f) (cases-bool x)

@@ -7,10 +7,11 @@ use mathlib.Core.List.{List, [], _∷_}
 use mathlib.Core.Logic.{⊎-elim}
 use lib.Dec.{eqb, ltb}
 use lib.ListN.{length, getD}
+use Rattle.std.specs.declared.option.Option.{Option}
 use Rattle.std.specs.declared.option.Option.the-variants.{None}
 use Rattle.std.proofs.shelf.Lists.{length-map}
 use Rattle.std.proofs.shelf.Ways.{tells}
-use Rattle.std.proofs.shelf.Tests.{and-parts, and-from, or-cases, or-left, or-right, eqb-true, eq-eqb}
+use Rattle.std.proofs.shelf.Tests.{and-parts, and-from, or-cases, or-left, or-right, eqb-true, both-ways, cases-order}
 use Rattle.routes.specs.declared.route.Route.{Route}
 use Rattle.routes.specs.Tests.{every}
 use Rattle.routes.specs.Order.{no-route, pair, ends, before, inside, ascending, ordered, in-order, first-unordered}
@@ -50,6 +51,17 @@ ascends-at [] j k e l h = absurd (omega arith)
 ascends-at (r ∷ rs) zero (suc k) e l h = head-before r rs k e (omega arith)
 ascends-at (r ∷ rs) (suc j) (suc k) e l h = ascends-at rs j k (and-parts (every (before (pair r)) (ends rs)) _ e .1) (omega arith) (omega arith)
 ascends-at (r ∷ rs) j zero e l h = absurd (omega arith)
+
+-- no two routes of a table that ascends have the same ends
+pub same-place : (t : List Route) (j k : ℕ) → ascending (ends t) ≡ true → j < length t → k < length t → pair (getD t j no-route) ≡ pair (getD t k no-route) → j ≡ k
+same-place t j k e h l s =
+    let x = before-irrefl (pair (getD t k no-route)) in
+    ⊎-elim (λ q. q)
+    (λ q.
+    absurd
+    (⊎-elim (λ u. both-ways _ x (subst (λ y. before y (pair (getD t k no-route)) ≡ true) s (ascends-at t j k e u l)))
+    (λ u. both-ways _ x (subst (λ y. before (pair (getD t k no-route)) y ≡ true) s (ascends-at t k j e u h))) q))
+    (cases-order j k)
 
 -- ---- from the places to the table
 pub inside-from : (n : ℕ) (t : List Route) → ((k : ℕ) → k < length t → inside n (pair (getD t k no-route)) ≡ true) → every (inside n) (ends t) ≡ true
@@ -109,3 +121,6 @@ ordered-none n t e =
 
 pub none-unordered : (n : ℕ) (t : List Route) → ordered n (ends t) ≡ true → first-unordered n t ≡ None
 none-unordered n t o = first-failing-passes (in-order n t) (length t) (λ i h. in-order-at n t i o h)
+
+pub unordered-exact : (n : ℕ) (t : List Route) (r : Option ℕ) → r ≡ first-unordered n t → (r ≡ None → ordered n (ends t) ≡ true) × (ordered n (ends t) ≡ true → r ≡ None)
+unordered-exact n t r e = (λ h. ordered-none n t (sym e ∙ h), λ o. e ∙ none-unordered n t o)

@@ -1,10 +1,8 @@
-use Prim.Native.Nat.{_-_}
+use Prim.Native.Nat.{ℕ, _<_}
 use mathlib.Core.Path.{_≡_}
-use lib.ListN.{length}
-use Rattle.routes.specs.Tests.{first, unless}
-use Rattle.routes.specs.Order.{in-order, first-unordered}
+use mathlib.Core.Bool.{true}
+use Rattle.routes.specs.Order.{in-order}
 use Rattle.routes.proofs.checks.first_unordered.Given as given
 
 abbrev pub Inv-loop-i : given.InvT-loop-i
-Inv-loop-i l =
-    first-unordered (l .stations) (l .routes) ≡ first (unless (in-order (l .stations) (l .routes))) (length (l .routes) - l .i) (l .i)
+Inv-loop-i l = (k : ℕ) → k < l .i → in-order (l .stations) (l .routes) k ≡ true
