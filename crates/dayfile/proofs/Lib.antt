@@ -1,2 +1,5 @@
 mod Fronts
+mod Judged
 mod Sections
+mod Stages
+mod Verdicts

@@ -5,18 +5,18 @@ ghost use Rattle.dayfile.specs.Tables.{first-no-group};
 ghost use Rattle.dayfile.specs.Verdict.{Below, packed, refuse-at, verdict-of};
 ghost use Rattle.std.specs.Vec.{made};
 ghost use mathlib.Core.Path.{_≡_};
-use refusals::Refusal;
-use routes::checks::first_incomplete;
-use routes::checks::first_misplaced;
-use routes::checks::first_unordered;
-use routes::route::Group;
-use routes::route::Route;
 use super::layout::Layout;
 use super::layout::check_layout;
 use super::refusal::FileRefusal;
 use super::tables::decode_groups;
 use super::tables::decode_routes;
 use super::tables::is_group_record;
+use refusals::Refusal;
+use routes::checks::first_incomplete;
+use routes::checks::first_misplaced;
+use routes::checks::first_unordered;
+use routes::route::Group;
+use routes::route::Route;
 
 // The layout of a file that is in order, or the first check that fails.
 pub fn check_file(bytes: &[u8]) -> Result<Layout, FileRefusal>
@@ -28,12 +28,20 @@ pub fn check_file(bytes: &[u8]) -> Result<Layout, FileRefusal>
     let (route_count, group_count) = (layout.routes.count, layout.groups.count);
     let route_table = decode_routes(bytes, layout);
     let routes = &route_table[0..route_count];
-    refuse_route(layout, Refusal::RouteOrder, first_unordered(layout.stations, routes))?;
+    refuse_route(
+        layout,
+        Refusal::RouteOrder,
+        first_unordered(layout.stations, routes),
+    )?;
     refuse_group(layout, Refusal::GroupRecord, first_no_group(bytes, layout))?;
     let group_table = decode_groups(bytes, layout);
     let groups = &group_table[0..group_count];
     refuse_route(layout, Refusal::RouteGroup, first_unfit(routes, groups))?;
-    refuse_group(layout, Refusal::GroupIncomplete, first_incomplete(routes, groups))?;
+    refuse_group(
+        layout,
+        Refusal::GroupIncomplete,
+        first_incomplete(routes, groups),
+    )?;
     Ok(layout)
 }
 
@@ -54,7 +62,10 @@ fn refuse_route(layout: Layout, refusal: Refusal, found: Option<usize>) -> Resul
     ensures { λ r. ⌜ verdict-of r ≡ refuse-at refusal (layout .routes .start) 3 found ⌝ }
 {
     match found {
-        Some(i) => Err(FileRefusal { refusal, place: (layout.routes.start + 3 * i) as u16 }),
+        Some(i) => Err(FileRefusal {
+            refusal,
+            place: (layout.routes.start + 3 * i) as u16,
+        }),
         None => Ok(()),
     }
 }
@@ -65,7 +76,10 @@ fn refuse_group(layout: Layout, refusal: Refusal, found: Option<usize>) -> Resul
     ensures { λ r. ⌜ verdict-of r ≡ refuse-at refusal (layout .groups .start) 4 found ⌝ }
 {
     match found {
-        Some(g) => Err(FileRefusal { refusal, place: (layout.groups.start + 4 * g) as u16 }),
+        Some(g) => Err(FileRefusal {
+            refusal,
+            place: (layout.groups.start + 4 * g) as u16,
+        }),
         None => Ok(()),
     }
 }
@@ -87,7 +101,11 @@ fn first_no_group(bytes: &[u8], layout: Layout) -> Option<usize>
 fn first_unfit(routes: &[Route], groups: &[Group]) -> Option<usize>
     ensures { λ r. ⌜ r ≡ first-unfit (now (routes .entry)) (now (groups .entry)) ⌝ }
 {
-    if groups.is_empty() { first_grouped(routes) } else { first_misplaced(routes, groups) }
+    if groups.is_empty() {
+        first_grouped(routes)
+    } else {
+        first_misplaced(routes, groups)
+    }
 }
 
 // The first route whose group byte is not 255.
