@@ -2,3 +2,4 @@ pub mod Verdict
 pub mod Layout
 pub mod Tables
 pub mod Check
+pub mod Records
