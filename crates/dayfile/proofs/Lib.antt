@@ -1,0 +1,7 @@
+mod Accepted
+mod Fronts
+mod Judged
+mod Places
+mod Sections
+mod Stages
+mod Verdicts
