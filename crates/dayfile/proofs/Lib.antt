@@ -1,0 +1,6 @@
+mod Fronts
+mod Judged
+mod Places
+mod Sections
+mod Stages
+mod Verdicts

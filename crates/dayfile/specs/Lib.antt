@@ -1,0 +1,5 @@
+pub mod Verdict
+pub mod Layout
+pub mod Tables
+pub mod Check
+pub mod Records

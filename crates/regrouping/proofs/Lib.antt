@@ -1,0 +1,13 @@
+pub mod Tables
+pub mod Live
+pub mod Keeps
+pub mod Runs
+pub mod Written
+pub mod Decomposes
+pub mod Done
+pub mod Regroups
+pub mod Finish
+pub mod Finds
+pub mod Meets
+pub mod Counts
+pub mod Marks

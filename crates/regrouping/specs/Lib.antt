@@ -1,0 +1,5 @@
+pub mod Table
+pub mod Steps
+pub mod Pairs
+pub mod Laws
+pub mod Examples
