@@ -1,3 +1,4 @@
+mod Accepted
 mod Fronts
 mod Judged
 mod Places

@@ -50,4 +50,4 @@ Holds bs p size most s =
 -- l is what the first 18 bytes say
 abbrev pub Reads : List ℕ → Layout → Type 0
 Reads bs l =
-    ((length bs ≤ 8192) × (l .stations ≡ station-count bs)) × Holds bs 2 3 496 (l .routes) × Holds bs 6 4 32 (l .groups) × Holds bs 10 2 1000 (l .handovers) × Holds bs 14 4 1000 (l .questions)
+    ((length bs ≤ 8192) × (l .stations ≡ station-count bs) × (l .stations ≤ 32)) × Holds bs 2 3 496 (l .routes) × Holds bs 6 4 32 (l .groups) × Holds bs 10 2 1000 (l .handovers) × Holds bs 14 4 1000 (l .questions)

@@ -3,3 +3,4 @@ pub mod Layout
 pub mod Tables
 pub mod Check
 pub mod Records
+pub mod Reading

@@ -1,16 +1,12 @@
 ghost use Prim.Native.Nat.{_+_, _*_, _≤_};
-ghost use Rattle.dayfile.specs.Check.{file-verdict};
 ghost use Rattle.dayfile.specs.Records.{part-at, part-if, record-at, told-if};
 ghost use Rattle.std.specs.declared.option.Option.the-variants.{None, Some};
 ghost use lib.Dec.{ltb};
 ghost use lib.ListN.{length};
 ghost use mathlib.Core.Bool.{cond};
 ghost use mathlib.Core.Path.{_≡_};
-use super::check::check_file;
 use super::file::DayFile;
-use super::layout::Layout;
 use super::layout::Section;
-use super::refusal::FileRefusal;
 
 // The four kinds of records.
 #[derive(Clone, Copy)]
@@ -31,31 +27,6 @@ pub enum Record<'a> {
 }
 
 impl<'a> DayFile<'a> {
-    // The file over `bytes`, checked.
-    pub fn open(bytes: &'a [u8]) -> DayFile<'a>
-        ensures { λ r. ⌜ r .bytes ≡ bytes .entry ⌝ }
-    {
-        match check_file(bytes) {
-            Ok(layout) => DayFile {
-                bytes,
-                layout,
-                refusal: None,
-            },
-            Err(e) => DayFile {
-                bytes,
-                layout: Layout::EMPTY,
-                refusal: Some(e),
-            },
-        }
-    }
-
-    // The first check that fails, if one does.
-    pub fn refusal(&self) -> Option<FileRefusal>
-        ensures { λ r. ⌜ r ≡ file-verdict (now (now (self .entry) .bytes)) ⌝ }
-    {
-        self.refusal
-    }
-
     // Record `index` of a kind: none past the last, and none of a refused file.
     pub fn record(&self, kind: Kind, index: usize) -> Option<Record<'a>>
         ensures { λ r. ⌜ told-if r ≡ record-at (now (self .entry) .bytes) kind index ⌝ }
