@@ -1,3 +1,4 @@
 mod Texts
 mod Floors
 mod Bounds
+mod Floorplans
