@@ -1,0 +1,4 @@
+mod Texts
+mod Floors
+mod Bounds
+mod Floorplans
