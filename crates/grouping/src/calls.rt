@@ -83,6 +83,7 @@ impl GroupPlan {
     // Groups the routes anew, by the three rules; the groups held before play no part.
     pub fn regroup(&mut self)
         ensures built { λ _. ⌜ contents (now (self .exit)) ≡ built (contents (now (self .entry)) .stations) (contents (now (self .entry)) .routes) ⌝ }
+        ensures stations { λ _. ⌜ contents (now (self .exit)) .stations ≡ contents (now (self .entry)) .stations ⌝ }
         ensures same { λ _. ⌜ ends (contents (now (self .exit)) .routes) ≡ ends (contents (now (self .entry)) .routes) ⌝ }
         ensures decomposition { λ _. ⌜ Decomposition (contents (now (self .exit)) .routes) (contents (now (self .exit)) .groups) ⌝ }
         ensures few { λ _. ⌜ length (contents (now (self .exit)) .groups) ≤ 32 ⌝ }

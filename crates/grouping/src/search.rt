@@ -5,7 +5,7 @@ ghost use mathlib.Core.Bool.{true};
 ghost use lib.ListN.{length, getD};
 ghost use Rattle.std.specs.shelf.Lists.{All};
 ghost use Rattle.routes.specs.Order.{ascending, ends};
-ghost use Rattle.regrouping.specs.Table.{Counted, best, loose, lowest-lone, remains, triangle, weigh};
+ghost use Rattle.regrouping.specs.Table.{Counted, best, loose, lowest-lone, remains, triangle};
 ghost use Rattle.regrouping.specs.Steps.{Inside, mate, some-open};
 use crate::pairs::is_open;
 use routes::route::Route;
@@ -61,10 +61,14 @@ pub(crate) fn first_triangle(routes: &[Route], degrees: &[u16; 32], n: u8) -> Op
     requires counted { ⌜ Counted (now degrees) (now routes) ⌝ }
     ensures { λ r. ⌜ r ≡ triangle (now (routes .entry)) n ⌝ }
 {
+    // Two corners of a loose triangle have exactly two remaining routes.
+    if !degrees.contains(&2) {
+        return None;
+    }
     let mut found = None;
     'search: for a in 0..n {
         for b in a + 1..n {
-            // Two corners of three have exactly two remaining routes, so a or b has.
+            // So a or b is such a corner.
             if degrees[a as usize] != 2 && degrees[b as usize] != 2 {
                 continue;
             }
@@ -82,17 +86,13 @@ pub(crate) fn first_triangle(routes: &[Route], degrees: &[u16; 32], n: u8) -> Op
     found
 }
 
-// The remaining routes at both ends of a route; 0 where it does not remain.
+// The remaining routes at both ends of a route.
 pub(crate) fn weight_of(r: Route, degrees: &[u16; 32]) -> u16
     requires stations { ⌜ (r .low < 32) × (r .high < 32) ⌝ }
     requires few { ⌜ ((s : ℕ) → s < 32 → getD (now degrees) s 0 ≤ 496) ⌝ }
-    ensures { λ w. ⌜ w ≡ weigh (λ s. getD (now (degrees .entry)) s 0) r ⌝ }
+    ensures { λ w. ⌜ w ≡ getD (now (degrees .entry)) (r .low) 0 + getD (now (degrees .entry)) (r .high) 0 ⌝ }
 {
-    if r.group == 255 {
-        degrees[r.low as usize] + degrees[r.high as usize]
-    } else {
-        0
-    }
+    degrees[r.low as usize] + degrees[r.high as usize]
 }
 
 // The place of the heaviest route, the first in ascending order.
@@ -105,6 +105,9 @@ pub(crate) fn best_route(routes: &[Route], degrees: &[u16; 32]) -> Option<usize>
     let mut top = 0;
     let mut found = None;
     for (i, r) in routes.iter().enumerate() {
+        if r.group != 255 {
+            continue;
+        }
         let w = weight_of(*r, degrees);
         if w > top {
             top = w;

@@ -4,20 +4,22 @@ use native.Mathlib.Omega.{arith}
 use mathlib.Core.Path.{_≡_, _∙_, ap, sym, refl, subst}
 use mathlib.Core.Bool.{Bool, true, false, cond, _||_, _&&_}
 use mathlib.Core.List.{List, [], _∷_}
-use lib.Dec.{eqb}
+use lib.Dec.{eqb, ltb}
 use lib.ListN.{length, getD, set, drop, length-set}
 use lib.Seq.{getD-set-same, getD-set-other}
 use mathlib.Core.Logic.{⊎-elim}
 use Rattle.std.specs.declared.option.Option.{Option}
 use Rattle.std.specs.declared.option.Option.the-variants.{Some, None}
+use Rattle.std.specs.shelf.Lists.{Has}
+use Rattle.std.proofs.shelf.Elements.{has-getD}
 use Rattle.std.proofs.shelf.Ways.{tells}
-use Rattle.std.proofs.shelf.Tests.{cond-both, cond-true, cond-false, eq-eqb, ne-eqb, eqb-true, cases-eq}
+use Rattle.std.proofs.shelf.Tests.{cond-both, cond-true, cond-false, eq-eqb, ne-eqb, eqb-true, cases-eq, le-ltb}
 use Rattle.routes.specs.declared.route.Route.{Route}
 use Rattle.routes.specs.Tests.{first, or-else}
 use Rattle.routes.specs.Order.{no-route}
-use Rattle.regrouping.specs.Table.{remaining, touches, on, degree, Counted, weigh, weight, lone, lowest-lone, leaf, remains, loose, two-of, third, second}
+use Rattle.regrouping.specs.Table.{remaining, touches, on, degree, Counted, weight, best-from, lone, lowest-lone, leaf, remains, loose, two-of, third, second, lowest, triangle}
 use Rattle.regrouping.specs.Steps.{in-group, Inside}
-use Rattle.regrouping.proofs.Tables.{degree-more, degree-small}
+use Rattle.regrouping.proofs.Tables.{degree-more, degree-small, best-more}
 
 -- one route is written anew
 pub degree-set : (t : List Route) (i s : ℕ) (x : Route) → i < length t → degree (set t i x) s + cond (on s (getD t i no-route)) 1 0 ≡ degree t s + cond (on s x) 1 0
@@ -44,9 +46,21 @@ count-over t i s x h r e =
 pub count-small : (d : List ℕ) (t : List Route) (s : ℕ) → Counted d t → s < 32 → length t ≤ 496 → getD d s 0 ≤ 496
 count-small d t s c h l = omega (arith, c s h, degree-small t s)
 
--- the weight of a route, by the counts
-pub weigh-counted : (d : List ℕ) (t : List Route) (r : Route) → Counted d t → Inside 32 r → weigh (λ s. getD d s 0) r ≡ weight t r
-weigh-counted d t r c h = let a = c (r .low) (omega (arith, h .0, h .1)) in let b = c (r .high) (h .1) in cc
+-- the weight of a route that remains, by the counts
+pub weight-counted : (d : List ℕ) (t : List Route) (r : Route) → Counted d t → Inside 32 r → remaining r ≡ true → getD d (r .low) 0 + getD d (r .high) 0 ≡ weight t r
+weight-counted d t r c h e =
+    let a = c (r .low) (omega (arith, h .0, h .1)) in
+    let b = c (r .high) (h .1) in
+    let w = cond-true (remaining r) (degree t (r .low) + degree t (r .high)) 0 e in
+    cc
+
+-- a route that does not remain is not the heaviest
+pub best-skip : (t : List Route) (i top : ℕ) (b : Option ℕ) → i < length t → remaining (getD t i no-route) ≡ false →
+    best-from (weight t) (drop i t) i top b ≡ best-from (weight t) (drop (i + 1) t) (i + 1) top b
+best-skip t i top b h e =
+    let r = getD t i no-route in
+    let z : _≡_ {A = ℕ} (weight t r) 0 = cond-false (remaining r) (degree t (r .low) + degree t (r .high)) 0 e in
+    best-more (weight t) t i top b h ∙ cond-false (ltb top (weight t r)) _ _ (le-ltb top (weight t r) (omega arith))
 
 -- ---- a route that gets a group
 -- it leaves each of its ends with one remaining route less
@@ -68,19 +82,28 @@ pub leaf-counted : (d : List ℕ) (t : List Route) (n : ℕ) → n ≤ 32 → Co
 leaf-counted d t n h c = first-same (lone (λ s. getD d s 0)) (lone (degree t)) n 0 (λ j l m. ap (λ x. cond (eqb x 1) (Some j) None) (c j (omega arith)))
 
 -- ---- the loose triangle
-pub first-none : {X : Type 0} (f : ℕ → Option X) (k i : ℕ) → ((j : ℕ) → f j ≡ None) → first f k i ≡ None
+pub first-none : {X : Type 0} (f : ℕ → Option X) (k i : ℕ) → ((j : ℕ) → i ≤ j → j < i + k → f j ≡ None) → first f k i ≡ None
 first-none f zero i h = refl
-first-none f (suc k) i h = ap (λ o. or-else o (first f k (i + 1))) (h i) ∙ first-none f k (i + 1) h
+first-none f (suc k) i h =
+    ap (λ o. or-else o (first f k (i + 1))) (h i (omega arith) (omega arith)) ∙ first-none f k (i + 1) (λ j l m. h j (omega arith) (omega arith))
 
 -- no third station, where neither a nor b has exactly two remaining routes
 pub second-heavy : (t : List Route) (n a b : ℕ) → eqb (degree t a) 2 ≡ false → eqb (degree t b) 2 ≡ false → second t n a b ≡ None
 second-heavy t n a b x y =
-    first-none (third t a b) (n - (b + 1)) (b + 1) (λ c. cond-false (loose t a b c) (Some (a, b, c)) None (grind (arith, tells)))
+    first-none (third t a b) (n - (b + 1)) (b + 1) (λ c _ _. cond-false (loose t a b c) (Some (a, b, c)) None (grind (arith, tells)))
 
 -- nor where the route between them does not remain
 pub second-apart : (t : List Route) (n a b : ℕ) → remains t a b ≡ false → second t n a b ≡ None
 second-apart t n a b x =
-    first-none (third t a b) (n - (b + 1)) (b + 1) (λ c. cond-false (loose t a b c) (Some (a, b, c)) None (grind (arith, tells)))
+    first-none (third t a b) (n - (b + 1)) (b + 1) (λ c _ _. cond-false (loose t a b c) (Some (a, b, c)) None (grind (arith, tells)))
+
+-- no loose triangle, where no station has exactly two remaining routes
+pub triangle-none : (d : List ℕ) (t : List Route) (n : ℕ) → n ≤ 32 → length d ≡ 32 → Counted d t → (Has d 2 → ⊥) → triangle t n ≡ None
+triangle-none d t n l w c h =
+    let no : (s : ℕ) → s < n → eqb (degree t s) 2 ≡ false =
+    λ s m. ne-eqb (degree t s) 2 (λ e. h (subst (Has d) (c s (omega arith) ∙ e) (has-getD d s 0 (omega arith)))) in
+    first-none (lowest t n) n 0
+    (λ a _ m. first-none (second t n a) (n - (a + 1)) (a + 1) (λ b k o. second-heavy t n a b (no a (omega arith)) (no b (omega arith))))
 
 -- ---- two places of a list are changed by f
 set-at : (d : List ℕ) (a x s : ℕ) → a < length d → getD (set d a x) s 0 ≡ cond (eqb a s) x (getD d s 0)

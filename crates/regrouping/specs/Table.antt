@@ -82,13 +82,9 @@ lowest t n a = first (second t n a) (n - (a + 1)) (a + 1)
 abbrev pub triangle : List Route → ℕ → Option (ℕ × ℕ × ℕ)
 triangle t n = first (lowest t n) n 0
 
--- what the stations' numbers weigh at both ends of a route; 0 where it does not remain
-abbrev pub weigh : (ℕ → ℕ) → Route → ℕ
-weigh d r = cond (remaining r) (d (r .low) + d (r .high)) 0
-
--- the weight of a route: the remaining routes at both its ends
+-- the weight of a route: the remaining routes at both its ends, and 0 where it does not remain
 abbrev pub weight : List Route → Route → ℕ
-weight t r = weigh (degree t) r
+weight t r = cond (remaining r) (degree t (r .low) + degree t (r .high)) 0
 
 -- the place of the first route with the largest weight, where one is above top, else b; i is the place of the list's head
 abbrev pub best-from : (Route → ℕ) → List Route → ℕ → ℕ → Option ℕ → Option ℕ

@@ -3,8 +3,9 @@ use Rattle.regrouping.specs.Table.{degree, lowest, second, third}
 use Rattle.routes.proofs.Firsts.{first-more, first-skip, first-hit, pass-at, hit-at}
 use Rattle.regrouping.proofs.Tables.{hit-two}
 use native.Mathlib.Omega.{arith}
-use Rattle.std.proofs.shelf.Tests.{ne-eqb}
-use Rattle.regrouping.proofs.Counts.{second-heavy, second-apart}
+use Rattle.std.proofs.shelf.Tests.{ne-eqb, true≢false}
+use Rattle.std.proofs.shelf.Elements.{has-from-contains}
+use Rattle.regrouping.proofs.Counts.{second-heavy, second-apart, triangle-none}
 use Rattle.grouping.proofs.search.first_triangle.Needs as need
 
 pub loop-b-holds : need.loop-b-holds
@@ -43,3 +44,8 @@ loop-b-again-then-not-is-open c =
     let b = c .loop-b .b in
     let e = first-skip (second t (c .args .n) a) (c .args .n) b (c .loop-b-test .taken) (second-apart t (c .args .n) a b (sym (c .is-open .ensures) ∙ c .if-not-is-open .taken)) in
     (c .loop-b .inv .0, cc)
+
+pub returns-then-not-contains : need.returns-then-not-contains
+returns-then-not-contains c =
+    let d = has-from-contains (c .args .degrees .now) 2 (c .contains .result) (c .contains .ensures .cases) in
+    sym (triangle-none (c .args .degrees .now) (c .args .routes .now) (c .args .n) (c .pre .stations) (c .told-degrees) (c .pre .counted) (λ h. true≢false (sym (d .1 h) ∙ c .if-not-contains .taken)))

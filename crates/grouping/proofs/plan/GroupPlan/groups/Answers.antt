@@ -1,16 +1,10 @@
-use mathlib.Core.Path.{ap, sym, subst}
-use mathlib.Core.List.{map}
+use borrow.Author.Needs.{needs}
 use Rattle.std.specs.Of.Vec.{vec-items}
-use Rattle.routes.specs.Groups.{told}
-use Rattle.routes.specs.Decomposition.{Decomposition}
 use Rattle.routes.proofs.Decompositions.{decomposition-from}
 use Rattle.grouping.proofs.plan.GroupPlan.groups.Needs as need
 
 pub returns : need.returns
 returns c =
     let p = c .args .self .now in
-    record {
-      groups = c .deref .ensures .value;
-      told = ap (map told) (c .deref .ensures .value);
-      decomposition = subst (Decomposition (vec-items (p .routes))) (sym (c .deref .ensures .value)) (decomposition-from (vec-items (p .routes)) (vec-items (p .groups)) (p .decomposed));
-    }
+    let d = decomposition-from (vec-items (p .routes)) (vec-items (p .groups)) (p .decomposed) in
+    search needs

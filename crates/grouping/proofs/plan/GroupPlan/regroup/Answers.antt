@@ -1,5 +1,5 @@
 use native.Mathlib.Omega.{arith}
-use mathlib.Core.Path.{ap}
+use mathlib.Core.Path.{ap, refl}
 use Rattle.std.specs.Of.Vec.{vec-items}
 use Rattle.routes.proofs.Decompositions.{decomposition-from}
 use Rattle.regrouping.proofs.Regroups.{came-back}
@@ -19,6 +19,7 @@ returns c =
     let q = came-back (p .stations) (vec-items (p .routes)) (p .few .0) (p .few .1) (p .ordered) (p .routes .len) _ (c .regroup-routes .last .routes) (p .routes .items) (vec-items (c .regroup-routes .last .groups)) (c .regroup-routes .ensures .written) (c .deref-mut .ensures .value) (p .routes .ok .0) in
     record {
       built = ap (λ w. given (p .stations) (w .table) (w .groups)) (q .written);
+      stations = refl;
       same = q .same;
       decomposition = decomposition-from _ _ (q .split);
       few = q .few;
