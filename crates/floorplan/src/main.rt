@@ -4,7 +4,7 @@ ghost use Rattle.std.specs.Results.{Cases};
 ghost use lib.ListN.{length};
 use dayfile::refusal::FileRefusal;
 use refusals::Refusal;
-use sheet::room::FloorRoom;
+use floortext::room::FloorRoom;
 use std::error::AnyError;
 use std::io;
 use std::io::Read;
