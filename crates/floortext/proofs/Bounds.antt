@@ -1,12 +1,12 @@
 -- How long a floor's text can be: at most 3,894 bytes. Assumes nothing.
 use Prim.Native.Nat.{ℕ, suc, _+_, _*_, _^_, _<_, _≤_}
 use native.Mathlib.Omega.{arith}
-use mathlib.Core.Path.{_≡_, refl, ap, sym, _∙_}
+use mathlib.Core.Path.{_≡_, ap}
 use mathlib.Core.Logic.{⊎-elim}
 use mathlib.Core.Bool.{true, cond}
-use mathlib.Core.List.{List, [], _∷_, _++_}
+use mathlib.Core.List.{List, [], _∷_}
 use lib.Chars.{codes}
-use lib.Dec.{eqb, leb}
+use lib.Dec.{leb}
 use lib.ListN.{length, getD}
 use Rattle.std.specs.Joined.{joined}
 use Rattle.std.specs.Written.{decimal}
@@ -20,7 +20,7 @@ use Rattle.routes.specs.Order.{no-route, ends, ordered}
 use Rattle.routes.specs.Decomposition.{Decomposition, Member, Joined, Shaped}
 use Rattle.routes.proofs.Orders.{inside-at}
 use Rattle.floortext.specs.Text.{labelled}
-use Rattle.floortext.specs.Floor.{head-lines, route-text, member-text, shape-text, group-line, group-lines, floor-text, refusal-text}
+use Rattle.floortext.specs.Floor.{route-text, member-text, shape-text, group-line, group-lines, floor-text, refusal-text}
 use Rattle.floortext.proofs.Texts.{length-labelled}
 use Rattle.floortext.proofs.Floors.{length-route, length-triangle, length-group-line, length-head-lines, length-floor, length-refusal}
 

@@ -1,6 +1,6 @@
 -- What is printed of a day file. Assumes nothing.
 use Prim.Native.Nat.{ℕ, _≤_}
-use mathlib.Core.Path.{_≡_, refl, ap, sym, _∙_}
+use mathlib.Core.Path.{_≡_, ap, _∙_}
 use mathlib.Core.List.{List, [], _++_}
 use lib.ListN.{length}
 use Rattle.std.specs.Of.Vec.{vec-items}
@@ -31,13 +31,15 @@ pub lent-text : (p : GroupPlan) {n : ℕ} {t : List Route} {gs : List Group}
 unfolding contents-text
 lent-text p e f g = cc
 
-pub printed-floor : (bs : List ℕ) (c : Contents) → c ≡ file-contents bs → None ≡ file-verdict bs → contents-text c ≡ floorplan-text bs
+-- a room that holds the text of what its plan holds, read from the file, holds what is printed of the file
+pub printed-floor : (bs : List ℕ) (c : Contents) {text : List ℕ} → text ≡ contents-text c → c ≡ file-contents bs → None ≡ file-verdict bs → text ≡ floorplan-text bs
 unfolding floorplan-text
-printed-floor bs c e v = ap contents-text e ∙ ap (verdict-text (file-contents bs)) v
+printed-floor bs c t e v = t ∙ ap contents-text e ∙ ap (verdict-text (file-contents bs)) v
 
-pub printed-refusal : (bs : List ℕ) (e : FileRefusal) → Some e ≡ file-verdict bs → refusal-text (told e .0) (told e .1) ≡ floorplan-text bs
+-- a room that holds the line of the file's refusal does too
+pub printed-refusal : (bs : List ℕ) (e : FileRefusal) (n : ℕ) {text : List ℕ} → text ≡ refusal-text n (e .place) → n ≡ told e .0 → Some e ≡ file-verdict bs → text ≡ floorplan-text bs
 unfolding floorplan-text
-printed-refusal bs e v = ap (verdict-text (file-contents bs)) v
+printed-refusal bs e n t k v = t ∙ ap (λ m. refusal-text m (e .place)) k ∙ ap (verdict-text (file-contents bs)) v
 
 -- a text that is added to an empty buffer
 pub added-alone : {Z : Type 0} {v w : Vec ℕ Z} {text : List ℕ} → Added v text w → vec-items v ≡ [] → vec-items w ≡ text

@@ -1,5 +1,4 @@
 // Bytes, words and decimals, added to a buffer whose room was reserved.
-ghost use Prim.Native.Nat.{_<_};
 ghost use mathlib.Core.List.{[], _∷_};
 ghost use lib.ListN.{length};
 ghost use Rattle.std.specs.Written.{decimal};
