@@ -3,7 +3,7 @@ use lib.ListN.{length}
 use Rattle.std.specs.Of.Vec.{vec-cap, vec-len}
 use Rattle.book.specs.Stations.{Kept}
 use Rattle.book.proofs.Keeping.{kept-new}
-use Rattle.book.proofs.book.BookRoom.open.Needs as need
+use Rattle.book.proofs.room.BookRoom.open.Needs as need
 
 pub ghost-result : need.ghost-result
 ghost-result c =
