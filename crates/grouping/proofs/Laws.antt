@@ -1,23 +1,22 @@
 -- A group plan shows the laws of a plan, by what every group plan holds.
-use Prim.Native.Nat.{ℕ, min, max, _≤_, _<_}
+use Prim.Native.Nat.{ℕ, min, max, _≤_}
 use native.Mathlib.Omega.{arith}
 use mathlib.Core.Path.{_≡_, ap, refl}
 use mathlib.Core.Bool.{true, false}
 use mathlib.Core.List.{List}
-use lib.Dec.{eqb}
 use lib.ListN.{length}
 use Rattle.std.specs.declared.option.Option.{Option}
 use Rattle.std.specs.declared.option.Option.the-variants.{Some, None}
 use Rattle.std.proofs.shelf.Ways.{tells}
 use Rattle.std.proofs.shelf.Tests.{eqb-true, false≢true}
-use Rattle.plans.specs.Meaning.{Meaning, Lawful, Entry, is-route, names, Apart, shares}
+use Rattle.plans.specs.Meaning.{Lawful, Entry, is-route, names, Apart, shares}
 use Rattle.routes.specs.declared.route.Route.{Route}
 use Rattle.routes.specs.declared.route.Group.{Group}
 use Rattle.routes.specs.Order.{ends, ordered}
 use Rattle.routes.specs.Groups.{decomposed}
 use Rattle.regrouping.specs.Pairs.{between}
 use Rattle.regrouping.proofs.Meets.{Meet, between-inside, between-group, groups-meet}
-use Rattle.grouping.specs.Plan.{Contents, given, dial, group-meaning}
+use Rattle.grouping.specs.Plan.{given, dial, group-meaning}
 
 not-route : (o : Option ℕ) → ((g : ℕ) → o ≡ Some g → ⊥) → is-route (dial o) ≡ false
 not-route None h = refl

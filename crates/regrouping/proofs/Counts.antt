@@ -13,11 +13,11 @@ use Rattle.std.specs.declared.option.Option.the-variants.{Some, None}
 use Rattle.std.specs.shelf.Lists.{Has}
 use Rattle.std.proofs.shelf.Elements.{has-getD}
 use Rattle.std.proofs.shelf.Ways.{tells}
-use Rattle.std.proofs.shelf.Tests.{cond-both, cond-true, cond-false, eq-eqb, ne-eqb, eqb-true, cases-eq, le-ltb}
+use Rattle.std.proofs.shelf.Tests.{cond-true, cond-false, eq-eqb, ne-eqb, eqb-true, cases-eq, le-ltb}
 use Rattle.routes.specs.declared.route.Route.{Route}
 use Rattle.routes.specs.Tests.{first, or-else}
 use Rattle.routes.specs.Order.{no-route}
-use Rattle.regrouping.specs.Table.{remaining, touches, on, degree, Counted, weight, best-from, lone, lowest-lone, leaf, remains, loose, two-of, third, second, lowest, triangle}
+use Rattle.regrouping.specs.Table.{remaining, touches, on, degree, Counted, weight, best-from, lone, lowest-lone, leaf, remains, loose, third, second, lowest, triangle}
 use Rattle.regrouping.specs.Steps.{in-group, Inside}
 use Rattle.regrouping.proofs.Tables.{degree-more, degree-small, best-more}
 

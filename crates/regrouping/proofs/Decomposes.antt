@@ -1,23 +1,23 @@
 -- Each written group leaves the routes so far decomposed.
-use Prim.Native.Nat.{ℕ, zero, suc, _+_, _-_, _≤_, _<_}
+use Prim.Native.Nat.{ℕ, suc, _+_, _≤_, _<_}
 use native.Mathlib.Omega.{arith}
 use mathlib.Core.Path.{_≡_, _∙_, ap, sym, refl, subst}
 use mathlib.Core.Bool.{Bool, true, false, cond, _||_, _&&_}
-use mathlib.Core.List.{List, [], _∷_, _++_, map}
-use mathlib.Core.Logic.{_⊎_, inl, inr, ⊎-elim}
+use mathlib.Core.List.{List, [], _∷_, _++_}
+use mathlib.Core.Logic.{⊎-elim}
 use lib.Dec.{eqb, ltb}
-use lib.ListN.{length, getD}
+use lib.ListN.{length}
 use Rattle.std.proofs.shelf.Ways.{tells}
 use Rattle.std.proofs.shelf.Lists.{length-push, getD-push, getD-append-left}
-use Rattle.std.proofs.shelf.Tests.{cond-both, cond-true, cond-false, eqb-false, eqb-true, and-parts, and-from, or-cases, or-left, or-right, cases-bool, lt-ltb, ltb-true, both-ways, eq-eqb}
+use Rattle.std.proofs.shelf.Tests.{cond-both, cond-true, and-parts, and-from, or-cases, or-left, or-right, lt-ltb, ltb-true, both-ways, eq-eqb}
 use Rattle.routes.specs.declared.route.Route.{Route}
 use Rattle.routes.specs.declared.route.Group.{Group}
 use Rattle.routes.specs.declared.route.Group.the-variants.{Star, Triangle}
 use Rattle.routes.specs.Tests.{every, some}
-use Rattle.routes.specs.Order.{no-route, ends}
+use Rattle.routes.specs.Order.{ends}
 use Rattle.routes.specs.Groups.{fits, side, placed, whole, wholes}
-use Rattle.regrouping.specs.Table.{on, joins, remains, degree, loose}
-use Rattle.regrouping.specs.Steps.{Work, work, in-group, marked, mark, write, rounds, Ready}
+use Rattle.regrouping.specs.Table.{on, joins, remains, degree}
+use Rattle.regrouping.specs.Steps.{Work, in-group, marked, mark, write, rounds, Ready}
 use Rattle.routes.proofs.Lists.{every-map, some-map}
 use Rattle.regrouping.proofs.Keeps.{ends-mark}
 use Rattle.regrouping.proofs.Written.{New, keeps-rounds}

@@ -2,8 +2,8 @@
 use Prim.Native.Nat.{ℕ, zero, suc, _+_, _-_, _≤_, _<_}
 use native.Mathlib.Omega.{arith}
 use mathlib.Core.Path.{_≡_, _∙_, ap, sym, refl, subst}
-use mathlib.Core.Bool.{Bool, true, false, cond, _||_, _&&_}
-use mathlib.Core.List.{List, [], _∷_, _++_, map}
+use mathlib.Core.Bool.{Bool, true, false, cond, _&&_}
+use mathlib.Core.List.{List, [], _∷_}
 use mathlib.Core.Logic.{_⊎_, inl, inr, ⊎-elim}
 use lib.Dec.{ltb, eqb}
 use lib.ListN.{length, getD}
@@ -13,15 +13,15 @@ use Rattle.std.specs.shelf.Lists.{All}
 use Rattle.std.proofs.shelf.Ways.{tells}
 use Rattle.std.proofs.shelf.Elements.{all-weaker}
 use Rattle.std.proofs.shelf.Lists.{length-push, length-map}
-use Rattle.std.proofs.shelf.Tests.{cond-both, both-ways, or-cases, and-parts, cases-eq, cases-bool, cond-true, cond-false, eqb-true, eqb-false, ltb-true}
+use Rattle.std.proofs.shelf.Tests.{cond-both, and-parts, cases-bool, cond-true, cond-false, eqb-true, eqb-false, ltb-true}
 use Rattle.routes.specs.declared.route.Route.{Route}
 use Rattle.routes.specs.declared.route.Group.{Group}
 use Rattle.routes.specs.declared.route.Group.the-variants.{Star, Triangle}
 use Rattle.routes.specs.Tests.{every, first, or-else}
 use Rattle.routes.specs.Order.{no-route, pair, ends, inside, ascending, ordered}
 use Rattle.routes.specs.Groups.{fits}
-use Rattle.regrouping.specs.Table.{on, degree, joins, remains, loose, two-of, answer, lone, leaf, triangle, third, second, lowest, best, best-from, weight}
-use Rattle.regrouping.specs.Steps.{Work, work, in-group, marked, mark, live, write, mate, leaves, triangles, star, both, heaviest, round, rounds, some-open, Inside, Ready}
+use Rattle.regrouping.specs.Table.{degree, loose, answer, lone, leaf, triangle, third, second, lowest, best, best-from, weight}
+use Rattle.regrouping.specs.Steps.{Work, in-group, marked, mark, write, mate, leaves, triangles, star, heaviest, round, rounds, some-open, Inside, Ready}
 use Rattle.regrouping.proofs.Live.{degree-mark-le, degree-star, loose-spent, live-less}
 
 -- ---- cases of an answer

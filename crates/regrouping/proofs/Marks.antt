@@ -2,7 +2,7 @@
 use Prim.Native.Nat.{ℕ, _+_, _<_}
 use native.Mathlib.Omega.{arith}
 use mathlib.Core.Path.{_≡_, _∙_, ap, sym, refl}
-use mathlib.Core.Bool.{Bool, true, false, cond, _&&_}
+use mathlib.Core.Bool.{true, false, _&&_}
 use mathlib.Core.List.{List, _++_}
 use lib.Dec.{eqb}
 use lib.ListN.{length, getD, set, take, drop}
@@ -14,7 +14,7 @@ use Rattle.routes.specs.declared.route.Route.{Route}
 use Rattle.routes.specs.declared.route.Group.{Group}
 use Rattle.routes.specs.Order.{no-route}
 use Rattle.routes.specs.Groups.{fits}
-use Rattle.regrouping.specs.Table.{remaining, touches, on, degree}
+use Rattle.regrouping.specs.Table.{remaining, touches, degree}
 use Rattle.regrouping.specs.Steps.{in-group, marked, mark}
 use Rattle.regrouping.proofs.Done.{degree-at}
 

@@ -1,25 +1,25 @@
 -- What the question of a pair answers in an ordered and decomposed table.
-use Prim.Native.Nat.{ℕ, min, max, _≤_, _<_}
+use Prim.Native.Nat.{ℕ, min, max, _<_}
 use native.Mathlib.Omega.{arith}
-use mathlib.Core.Path.{_≡_, ap, sym, refl, subst}
-use mathlib.Core.Bool.{Bool, true, false}
+use mathlib.Core.Path.{_≡_, subst}
+use mathlib.Core.Bool.{true}
 use mathlib.Core.List.{List}
 use mathlib.Core.Logic.{_⊎_, ⊎-elim}
-use lib.Dec.{eqb, ltb}
+use lib.Dec.{ltb}
 use lib.ListN.{length, getD}
-use Rattle.std.specs.declared.option.Option.{Option}
-use Rattle.std.specs.declared.option.Option.the-variants.{Some, None}
+use Rattle.std.specs.declared.option.Option.the-variants.{Some}
 use Rattle.std.proofs.shelf.Ways.{tells}
 use Rattle.std.proofs.shelf.Tests.{and-parts, cases-lt, ltb-true}
 use Rattle.routes.specs.declared.route.Route.{Route}
 use Rattle.routes.specs.declared.route.Group.{Group}
 use Rattle.routes.specs.declared.route.Group.the-variants.{Star, Triangle}
 use Rattle.routes.specs.Tests.{every}
-use Rattle.routes.specs.Order.{no-route, pair, ends, inside, ordered}
+use Rattle.routes.specs.Order.{no-route, ends, ordered}
 use Rattle.routes.specs.Groups.{side, fits, placed, decomposed}
 use Rattle.regrouping.specs.Pairs.{from, between}
 use Rattle.routes.proofs.Lists.{every-at}
 use Rattle.routes.proofs.Orders.{inside-at}
+use Rattle.routes.proofs.Decompositions.{fits-meet}
 use Rattle.regrouping.proofs.Finds.{from-some}
 
 -- ---- the ends of a route that was found
@@ -49,10 +49,6 @@ between-group gs t a b g p e = from-placed gs t (min a b) (max a b) g p e .2
 -- ---- two routes of one group share a station
 abbrev pub Meet : ℕ → ℕ → ℕ → ℕ → Type 0
 Meet a b c d = (a ≡ c) ⊎ ((a ≡ d) ⊎ ((b ≡ c) ⊎ (b ≡ d)))
-
-fits-meet : (k : Group) (r s : Route) → fits k r ≡ true → fits k s ≡ true → Meet (r .low) (r .high) (s .low) (s .high)
-fits-meet (Star c) r s e f = grind (arith, tells)
-fits-meet (Triangle a b c) r s e f = grind (arith, tells)
 
 side-ends : (a b : ℕ) (r : Route) → side a b r ≡ true → (r .low ≡ a) × (r .high ≡ b)
 side-ends a b r e = (grind (arith, tells), grind (arith, tells))

@@ -1,27 +1,25 @@
 -- Regrouping leaves the same routes, decomposed into at most 32 groups.
-use Prim.Native.Nat.{ℕ, zero, suc, _+_, _-_, _≤_, _<_}
+use Prim.Native.Nat.{ℕ, _≤_}
 use native.Mathlib.Omega.{arith}
 use mathlib.Core.Path.{_≡_, _∙_, ap, sym, refl, subst}
-use mathlib.Core.Bool.{Bool, true, false, cond, _||_, _&&_}
-use mathlib.Core.List.{List, [], _∷_, _++_, map}
-use mathlib.Core.Logic.{_⊎_, inl, inr, ⊎-elim}
-use lib.Dec.{eqb, ltb}
-use lib.ListN.{length, getD, take, drop}
-use Rattle.std.specs.shelf.Lists.{All}
+use mathlib.Core.Bool.{true}
+use mathlib.Core.List.{List, [], _∷_, _++_}
+use mathlib.Core.Logic.{⊎-elim}
+use lib.Dec.{eqb}
+use lib.ListN.{length, take, drop}
 use Rattle.std.proofs.shelf.Lists.{length-map, take-at}
-use Rattle.std.proofs.shelf.Ways.{tells}
-use Rattle.std.proofs.shelf.Tests.{and-parts, and-from, or-cases, both-ways, ltb-true, eq-eqb}
+use Rattle.std.proofs.shelf.Tests.{and-parts, and-from, or-cases, both-ways}
 use Rattle.routes.specs.declared.route.Route.{Route}
 use Rattle.routes.specs.declared.route.Group.{Group}
 use Rattle.routes.specs.Tests.{every}
-use Rattle.routes.specs.Order.{ends, inside, ordered}
-use Rattle.routes.specs.Groups.{placed, wholes, decomposed}
-use Rattle.regrouping.specs.Steps.{Work, work, in-group, opened, start, rounds, regrouped, live, Ready}
+use Rattle.routes.specs.Order.{ends, ordered}
+use Rattle.routes.specs.Groups.{placed, decomposed}
+use Rattle.regrouping.specs.Steps.{work, in-group, opened, start, regrouped, Ready}
 use Rattle.regrouping.specs.Laws.{Regroups}
 use Rattle.routes.proofs.Orders.{length-ends}
 use Rattle.regrouping.proofs.Live.{live-small}
 use Rattle.regrouping.proofs.Keeps.{ready-rounds}
-use Rattle.regrouping.proofs.Decomposes.{held, Partly, partly-rounds}
+use Rattle.regrouping.proofs.Decomposes.{held, partly-rounds}
 use Rattle.regrouping.proofs.Done.{Closed, rounds-done, live-closed}
 
 ends-opened : (t : List Route) → ends (opened t) ≡ ends t

@@ -1,19 +1,16 @@
 -- One turn of each loop of the run.
-use Prim.Native.Nat.{ℕ, zero, suc, _+_, _-_, _≤_, _<_}
+use Prim.Native.Nat.{ℕ, zero, suc, _+_, _-_, _<_}
 use native.Mathlib.Omega.{arith}
 use mathlib.Core.Path.{_≡_, _∙_, ap, sym, refl, subst}
-use mathlib.Core.List.{List, [], _∷_, _++_}
-use lib.ListN.{length, getD}
+use lib.ListN.{length}
 use mathlib.Core.Bool.{true, false, cond}
-use Rattle.std.specs.declared.option.Option.{Option}
 use Rattle.std.specs.declared.option.Option.the-variants.{Some, None}
 use Rattle.std.proofs.shelf.Lists.{length-push}
-use Rattle.routes.specs.declared.route.Route.{Route}
 use Rattle.routes.specs.declared.route.Group.{Group}
 use Rattle.routes.specs.declared.route.Group.the-variants.{Star, Triangle}
-use Rattle.regrouping.specs.Table.{degree, leaf, triangle, best, answer}
-use Rattle.regrouping.specs.Steps.{Work, work, write, mate, leaves, triangles, star, both, heaviest, round, rounds, some-open, Ready}
-use Rattle.regrouping.proofs.Keeps.{ready-leaf, ready-star, ready-triangle, triangle-some, ready-some-star, ready-heaviest, ready-triangles, ready-leaves, ready-round, ready-rounds}
+use Rattle.regrouping.specs.Table.{degree, leaf, triangle, answer}
+use Rattle.regrouping.specs.Steps.{Work, write, mate, leaves, triangles, round, rounds, some-open, Ready}
+use Rattle.regrouping.proofs.Keeps.{ready-leaf, ready-star, ready-triangle, triangle-some, ready-round}
 
 pub room-before : (n : ℕ) (k : Group) (w : Work) → Ready n (write k w) → length (w .groups) < 32
 room-before n k w h = omega (arith, length-push (w .groups) k, h .room)

@@ -1,17 +1,17 @@
 -- The steps of the loops over a table of routes.
-use Prim.Native.Nat.{ℕ, suc, _+_, _-_, _≤_, _<_}
+use Prim.Native.Nat.{ℕ, suc, _+_, _≤_, _<_}
 use native.Mathlib.Omega.{arith}
 use Rattle.std.specs.declared.option.Option.{Option}
-use Rattle.std.specs.declared.option.Option.the-variants.{Some, None}
-use mathlib.Core.Path.{_≡_, _∙_, ap, sym, refl}
-use mathlib.Core.Bool.{Bool, true, false, cond, _||_}
-use Rattle.std.proofs.shelf.Tests.{cond-true, cond-false, cond-both}
+use Rattle.std.specs.declared.option.Option.the-variants.{Some}
+use mathlib.Core.Path.{_≡_}
+use mathlib.Core.Bool.{cond}
+use Rattle.std.proofs.shelf.Tests.{cond-both}
 use mathlib.Core.List.{List, [], _∷_}
 use lib.Dec.{ltb, eqb}
-use Rattle.routes.specs.Tests.{first, or-else}
+use Rattle.routes.specs.Tests.{or-else}
 use Rattle.routes.specs.Order.{no-route}
-use Rattle.regrouping.specs.Table.{on, degree, joins, remains, best-from}
-use Rattle.regrouping.specs.Steps.{mate, some-open}
+use Rattle.regrouping.specs.Table.{on, degree, best-from}
+use Rattle.regrouping.specs.Steps.{mate}
 use lib.ListN.{length, getD, drop}
 use Rattle.std.proofs.shelf.Lists.{at-drop-more, at-drop-all}
 use Rattle.routes.specs.declared.route.Route.{Route}

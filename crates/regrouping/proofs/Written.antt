@@ -1,19 +1,16 @@
 -- What every written group keeps, the run keeps.
-use Prim.Native.Nat.{ℕ, zero, suc, _+_, _-_, _≤_, _<_}
+use Prim.Native.Nat.{ℕ, zero, suc, _<_}
 use native.Mathlib.Omega.{arith}
-use mathlib.Core.Path.{_≡_, _∙_, ap, sym, refl, subst}
-use mathlib.Core.Bool.{Bool, true, false, cond}
-use mathlib.Core.List.{List, [], _∷_, _++_, map}
+use mathlib.Core.Path.{_≡_}
+use mathlib.Core.Bool.{true}
+use mathlib.Core.List.{List}
 use lib.Dec.{eqb}
-use lib.ListN.{length, getD}
-use Rattle.std.specs.declared.option.Option.{Option}
-use Rattle.std.specs.declared.option.Option.the-variants.{Some, None}
 use Rattle.std.proofs.shelf.Tests.{cond-both, eqb-false}
 use Rattle.routes.specs.declared.route.Route.{Route}
 use Rattle.routes.specs.declared.route.Group.{Group}
 use Rattle.routes.specs.declared.route.Group.the-variants.{Star, Triangle}
 use Rattle.regrouping.specs.Table.{degree, loose, leaf, triangle, best}
-use Rattle.regrouping.specs.Steps.{Work, work, write, mate, leaves, triangles, star, both, heaviest, round, rounds, some-open, Ready}
+use Rattle.regrouping.specs.Steps.{Work, write, mate, leaves, triangles, star, heaviest, round, rounds, some-open, Ready}
 use Rattle.regrouping.proofs.Keeps.{answer-both, leaf-some, mate-live, triangle-some, ready-star, ready-triangle}
 
 -- what holds of a group as it is written

@@ -1,9 +1,8 @@
 -- Three tables of routes, and how they are grouped.
 use Prim.Native.Nat.{ℕ}
 use mathlib.Core.Path.{_≡_}
-use mathlib.Core.List.{List, [], _∷_}
+use mathlib.Core.List.{[], _∷_}
 use Rattle.routes.specs.declared.route.Route.{Route}
-use Rattle.routes.specs.declared.route.Group.{Group}
 use Rattle.routes.specs.declared.route.Group.the-variants.{Star, Triangle}
 use Rattle.regrouping.specs.Steps.{work, regrouped}
 

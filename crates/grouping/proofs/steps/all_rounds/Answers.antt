@@ -1,7 +1,6 @@
-use mathlib.Core.Path.{_∙_, ap, sym}
-use native.Mathlib.Omega.{arith}
+use mathlib.Core.Path.{_∙_, sym}
 use Prim.Native.Nat.{_-_}
-use Rattle.std.specs.Of.Vec.{vec-items, vec-cap}
+use Rattle.std.specs.Of.Vec.{vec-items}
 use Rattle.regrouping.specs.Steps.{work}
 use Rattle.regrouping.proofs.Runs.{rounds-none, rounds-turn}
 use Rattle.regrouping.proofs.Keeps.{ready-low}

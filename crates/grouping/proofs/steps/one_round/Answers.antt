@@ -1,6 +1,6 @@
-use mathlib.Core.Path.{_∙_, sym, subst}
+use mathlib.Core.Path.{sym, subst}
 use native.Mathlib.Omega.{arith}
-use Rattle.std.specs.Of.Vec.{vec-items, vec-cap}
+use Rattle.std.specs.Of.Vec.{vec-items}
 use Rattle.std.proofs.shelf.Elements.{all-getD}
 use Rattle.routes.specs.Order.{no-route}
 use Rattle.regrouping.specs.Steps.{work, Inside, Ready}

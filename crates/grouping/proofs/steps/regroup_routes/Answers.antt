@@ -1,5 +1,5 @@
 use native.Mathlib.Omega.{arith}
-use mathlib.Core.Path.{_≡_, sym, subst}
+use mathlib.Core.Path.{_≡_, subst}
 use mathlib.Core.List.{[]}
 use Rattle.std.specs.Of.Vec.{vec-items}
 use Rattle.regrouping.specs.Steps.{work, opened, Ready}

@@ -1,7 +1,7 @@
-use mathlib.Core.Path.{_∙_, ap, sym}
+use mathlib.Core.Path.{_∙_, sym}
 use native.Mathlib.Omega.{arith}
-use Rattle.std.specs.Of.Vec.{vec-items, vec-cap}
-use Rattle.regrouping.specs.Steps.{work, leaves, Ready}
+use Rattle.std.specs.Of.Vec.{vec-items}
+use Rattle.regrouping.specs.Steps.{work}
 use Rattle.regrouping.proofs.Runs.{room-before, leaves-none, leaves-turn}
 use Rattle.regrouping.proofs.Keeps.{ready-leaf, ready-low}
 use Rattle.regrouping.proofs.Counts.{leaf-counted}

@@ -1,9 +1,9 @@
 use borrow.Author.Needs.{needs}
-use Prim.Native.Nat.{ℕ, _+_, _<_}
+use Prim.Native.Nat.{_<_}
 use native.Mathlib.Omega.{arith}
 use mathlib.Core.Path.{_≡_, _∙_, ap, sym, subst}
 use mathlib.Core.Bool.{Bool, false, _&&_}
-use lib.ListN.{length, getD, set}
+use lib.ListN.{length, getD}
 use lib.Seq.{set-getD}
 use Rattle.std.specs.shelf.Lists.{All}
 use Rattle.std.proofs.shelf.Ways.{tells}
@@ -12,7 +12,7 @@ use Rattle.std.proofs.shelf.Lists.{take-all, drop-all}
 use Rattle.std.proofs.shelf.Tests.{eq-eqb, ne-eqb}
 use Rattle.routes.specs.Order.{no-route}
 use Rattle.routes.specs.Groups.{fits}
-use Rattle.regrouping.specs.Table.{remaining, degree, Counted}
+use Rattle.regrouping.specs.Table.{remaining, degree}
 use Rattle.regrouping.specs.Steps.{Inside, in-group}
 use Rattle.regrouping.proofs.Counts.{count-out}
 use Rattle.regrouping.proofs.Marks.{taken-turn, passed-turn, ends-live}

@@ -1,7 +1,7 @@
-use mathlib.Core.Path.{_∙_, ap, sym}
+use mathlib.Core.Path.{_∙_, sym}
 use Prim.Native.Nat.{_-_}
 use native.Mathlib.Omega.{arith}
-use Rattle.std.specs.Of.Vec.{vec-items, vec-cap}
+use Rattle.std.specs.Of.Vec.{vec-items}
 use Rattle.regrouping.specs.Steps.{work}
 use Rattle.regrouping.proofs.Runs.{room-before, triangles-none, triangles-turn}
 use Rattle.regrouping.proofs.Keeps.{ready-triangle, triangle-some, ready-low, ready-ascending}
