@@ -1,7 +1,7 @@
-mod Accepted
-mod Fronts
-mod Judged
-mod Places
-mod Sections
-mod Stages
-mod Verdicts
+pub mod Accepted
+pub mod Fronts
+pub mod Judged
+pub mod Places
+pub mod Sections
+pub mod Stages
+pub mod Verdicts

@@ -7,6 +7,15 @@ ghost use mathlib.Core.Path.{_≡_};
 use super::refusal::FileRefusal;
 use refusals::Refusal;
 
+// The most records that a file can have of each kind.
+pub const MOST_ROUTES: usize = 496;
+
+pub const MOST_GROUPS: usize = 32;
+
+pub const MOST_HANDOVERS: usize = 1000;
+
+pub const MOST_QUESTIONS: usize = 1000;
+
 // A section of the file: the place of its first record, and how many it has.
 #[derive(Clone, Copy)]
 pub struct Section {
@@ -105,10 +114,22 @@ pub(crate) fn check_layout(bytes: &[u8]) -> Result<Layout, FileRefusal>
             place: 1,
         });
     }
-    let routes = check_pair(bytes, 2, 18, 3, 496)?;
-    let groups = check_pair(bytes, 6, routes.start + 3 * routes.count, 4, 32)?;
-    let handovers = check_pair(bytes, 10, groups.start + 4 * groups.count, 2, 1000)?;
-    let questions = check_pair(bytes, 14, handovers.start + 2 * handovers.count, 4, 1000)?;
+    let routes = check_pair(bytes, 2, 18, 3, MOST_ROUTES)?;
+    let groups = check_pair(bytes, 6, routes.start + 3 * routes.count, 4, MOST_GROUPS)?;
+    let handovers = check_pair(
+        bytes,
+        10,
+        groups.start + 4 * groups.count,
+        2,
+        MOST_HANDOVERS,
+    )?;
+    let questions = check_pair(
+        bytes,
+        14,
+        handovers.start + 2 * handovers.count,
+        4,
+        MOST_QUESTIONS,
+    )?;
     Ok(Layout {
         stations,
         routes,

@@ -4,15 +4,12 @@ ghost use Rattle.dayfile.specs.Tables.{group-at, group-byte, groups-of, is-gro
 ghost use lib.ListN.{length, take};
 ghost use mathlib.Core.Path.{_≡_};
 use super::layout::Layout;
+use super::layout::MOST_GROUPS;
+use super::layout::MOST_ROUTES;
 use routes::route::Group;
 use routes::route::Route;
 
-// The most routes and groups that a file can have: their tables stand on the stack.
-pub(crate) const MOST_ROUTES: usize = 496;
-
-pub(crate) const MOST_GROUPS: usize = 32;
-
-// The routes of a file, at the front of a table.
+// The routes of a file, at the front of a table on the stack that has room for the most there can be.
 pub(crate) fn decode_routes(bytes: &[u8], layout: Layout) -> [Route; MOST_ROUTES]
     requires { ⌜ Reads (now bytes) layout ⌝ }
     ensures room { λ r. ⌜ length r ≡ 496 ⌝ }
@@ -53,6 +50,7 @@ pub(crate) fn is_group_record(bytes: &[u8], layout: Layout, g: usize) -> bool
     }
 }
 
+// Route `i`: its lower end, its higher end, its group.
 fn route_at(bytes: &[u8], layout: Layout, i: usize) -> Route
     requires { ⌜ Reads (now bytes) layout ⌝ ∗ ⌜ i < layout .routes .count ⌝ }
     ensures { λ r. ⌜ r ≡ route-at (now (bytes .entry)) i ⌝ }
@@ -65,6 +63,7 @@ fn route_at(bytes: &[u8], layout: Layout, i: usize) -> Route
     }
 }
 
+// Group `g`: a triangle where its kind is 1, else a star.
 fn group_at(bytes: &[u8], layout: Layout, g: usize) -> Group
     requires { ⌜ Reads (now bytes) layout ⌝ ∗ ⌜ g < layout .groups .count ⌝ }
     ensures { λ r. ⌜ r ≡ group-at (now (bytes .entry)) g ⌝ }
@@ -89,6 +88,7 @@ fn group_byte(bytes: &[u8], layout: Layout, g: usize, k: usize) -> u8
     bytes[layout.groups.start + 4 * g + k]
 }
 
+// A table to write routes into; a function of its own, so that its caller's proof has a length and not 496 elements.
 fn blank_routes() -> [Route; MOST_ROUTES]
     ensures { λ r. ⌜ length r ≡ 496 ⌝ }
 {
@@ -99,6 +99,7 @@ fn blank_routes() -> [Route; MOST_ROUTES]
     }; MOST_ROUTES]
 }
 
+// The same for groups.
 fn blank_groups() -> [Group; MOST_GROUPS]
     ensures { λ r. ⌜ length r ≡ 32 ⌝ }
 {
