@@ -36,6 +36,7 @@ nothing = given 0 [] []
 abbrev pub built : ℕ → List Route → Contents
 built n t = given n (regrouped n t .table) (regrouped n t .groups)
 
+-- what the plan p holds
 abbrev pub contents : GroupPlan → Contents
 contents p = given (p .stations) (vec-items (p .routes)) (vec-items (p .groups))
 

@@ -99,10 +99,10 @@ impl GroupPlan {
         ensures filled { λ r. ⌜ (r ≡ true → contents (now (self .exit)) ≡ given stations (now (routes .entry)) (now (groups .entry))) ⌝ }
         ensures refused { λ r. ⌜ (r ≡ false → now (self .exit) ≡ now (self .entry)) ⌝ }
     {
-        if !is_acceptable(stations, routes)
-            || groups.len() > 32
-            || !is_decomposition(routes, groups)
-        {
+        if !is_acceptable(stations, routes) {
+            return false;
+        }
+        if groups.len() > 32 || !is_decomposition(routes, groups) {
             return false;
         }
         copy_routes(&mut self.routes, routes);

@@ -6,6 +6,7 @@ use Rattle.routes.specs.declared.route.Route.{Route}
 use Rattle.routes.specs.declared.route.Group.the-variants.{Star, Triangle}
 use Rattle.regrouping.specs.Steps.{work, regrouped}
 
+-- the route from a to b with the group g
 abbrev pub r : ℕ → ℕ → ℕ → Route
 r a b g = record { low = a; high = b; group = g }
 

@@ -18,6 +18,7 @@ pub record Work : Type 0 where
   pub table : List Route
   pub groups : List Group
 
+-- these routes with these groups
 abbrev pub work : List Route → List Group → Work
 work t gs = record { table = t; groups = gs }
 
@@ -29,6 +30,7 @@ in-group g r = record { low = r .low; high = r .high; group = g }
 abbrev pub marked : Group → ℕ → Route → Route
 marked k g r = cond (remaining r && fits k r) (in-group g r) r
 
+-- the same for each route of a table
 abbrev pub mark : Group → ℕ → List Route → List Route
 mark k g t = map (marked k g) t
 

@@ -1,23 +1,12 @@
 use native.Mathlib.Omega.{arith}
-use Prim.Native.Nat.{ℕ, _≤_}
-use mathlib.Core.Path.{_≡_, _∙_, ap, sym}
-use mathlib.Core.Bool.{true}
-use mathlib.Core.List.{List}
-use lib.Dec.{leb}
+use mathlib.Core.Path.{_∙_, ap, sym}
 use lib.ListN.{length}
 use Rattle.std.specs.Of.Vec.{vec-items}
-use Rattle.std.proofs.shelf.Tests.{and-parts, leb-true, true≢false}
-use Rattle.routes.specs.declared.route.Route.{Route}
-use Rattle.routes.specs.Order.{ends, ordered}
+use Rattle.std.proofs.shelf.Tests.{true≢false}
 use Rattle.regrouping.proofs.Regroups.{came-back}
-use Rattle.grouping.specs.Plan.{acceptable, given}
+use Rattle.grouping.specs.Plan.{given}
+use Rattle.grouping.proofs.Accepts.{accepted}
 use Rattle.grouping.proofs.plan.GroupPlan.fill_routes.Needs as need
-
-accepted : (n : ℕ) (t : List Route) → acceptable n t ≡ true → (n ≤ 32) × (length t ≤ 496) × (ordered n (ends t) ≡ true)
-accepted n t e =
-    let u = and-parts (leb n 32) _ e in
-    let v = and-parts (leb (length t) 496) _ (u .1) in
-    (leb-true n 32 (u .0), leb-true (length t) 496 (v .0), v .1)
 
 pub ghost-self : need.ghost-self
 ghost-self c =
