@@ -1,9 +1,11 @@
 //! Every refusal of the handover book, each with its number.
 ghost use mathlib.Core.Path.{_≡_};
-ghost use Rattle.refusals.specs.Number.{number};
+ghost use Rattle.std.specs.declared.option.Option.the-variants.{Some};
+ghost use Rattle.std.specs.Orderings.{Decides};
+ghost use Rattle.refusals.specs.Number.{number, refusal-of};
 
 // Why a call was refused. docs/REFUSALS.md has a line for each, with what to do.
-#[derive(Clone, Copy, PartialEq, Eq, Debug)]
+#[derive(Clone, Copy, Eq, Debug)]
 pub enum Refusal {
     FileLength,
     SectionOffset,
@@ -25,9 +27,10 @@ pub enum Refusal {
 }
 
 impl Refusal {
-    // The number by which users know the refusal.
+    // The number by which users know the refusal; no two refusals have the same.
     pub fn number(self) -> u8
-        ensures { λ r. ⌜ r ≡ number self ⌝ }
+        ensures exact { λ r. ⌜ r ≡ number self ⌝ }
+        ensures alone { λ r. ⌜ refusal-of r ≡ Some self ⌝ }
     {
         match self {
             Refusal::FileLength => 1,
@@ -48,5 +51,14 @@ impl Refusal {
             Refusal::TooShort => 16,
             Refusal::JoinUnfit => 17,
         }
+    }
+}
+
+// Two refusals are equal exactly when their numbers are.
+pub impl PartialEq<Refusal> for Refusal as RefusalPartialEq {
+    ghost equals = { λ x y r. Decides r (x ≡ y) };
+
+    fn eq(&self, other: &Refusal) -> bool {
+        self.number() == other.number()
     }
 }
