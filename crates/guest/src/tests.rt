@@ -1,13 +1,13 @@
 // A floor on a plan of our own: the calls work as on any other.
+use super::Hub;
+use super::HubPlan;
 use book::floor::Floor;
 use book::room::BookRoom;
 use order::kinds::Relation;
+use plans::plan::Plan;
 use refusals::Refusal;
 use refusals::RefusalPartialEq;
 use std::test::*;
-use super::Hub;
-use super::HubPlan;
-use plans::plan::Plan;
 
 // Offers a handover and settles it: its number, or the refusal.
 fn hand<P: Plan>(floor: &mut Floor<P>, giver: u8, taker: u8) -> Result<u16, Refusal> {
@@ -26,7 +26,9 @@ fn hub_orders_all_its_handovers(rt: LibcRuntime) -> Result<(), Fail> {
     let mut floor = Floor::new(BookRoom::new(rt.alloc())?, Hub::new(4));
     check(matches!(hand(&mut floor, 0, 1), Ok(0)))?;
     check(matches!(hand(&mut floor, 2, 0), Ok(1)))?;
-    check(matches!(hand(&mut floor, 1, 2), Err(Refusal::NoRoute))).note("no route between two others")?;
+    check(matches!(hand(&mut floor, 1, 2), Err(Refusal::NoRoute))).note(
+        "no route between two others",
+    )?;
     check(matches!(hand(&mut floor, 0, 4), Err(Refusal::NoStation)))?;
     check(matches!(hand(&mut floor, 0, 3), Ok(2)))?;
     check(matches!(floor.relation(0, 2), Ok(Relation::Before))).note("all meet at station 0")?;

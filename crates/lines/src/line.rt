@@ -9,7 +9,7 @@ use crate::text::*;
 use order::kinds::Relation;
 use refusals::Refusal;
 
-// A line of the day sheet by its kind. Any numbers and any counts make a line.
+// A line of the day sheet by its kind. Any numbers and any list of counts make a line.
 #[derive(Clone, Copy)]
 pub enum Line<'a> {
     RefusedFile {
@@ -40,8 +40,8 @@ pub enum Line<'a> {
 }
 
 impl<'a> Line<'a> {
-    // Writes the line at the start of `out` and answers its length. Where `out` is shorter
-    // than the line, answers that and leaves it as it was.
+    // Writes the line at the start of `out` and answers its length; what lies past it stays.
+    // Where `out` is shorter than the line, it is refused as too short and left as it was.
     pub fn write(self, out: &mut [u8]) -> Result<usize, Refusal>
         ensures reply { λ r. ⌜ r ≡ text-reply (now (out .entry)) (line-text (self .entry)) ⌝ }
         ensures after { λ _. ⌜ now (out .exit) ≡ text-after (now (out .entry)) (line-text (self .entry)) ⌝ }
@@ -52,12 +52,13 @@ impl<'a> Line<'a> {
         Ok(self.put(out))
     }
 
+    // Is the line at most `room` bytes long? Lists of any length must not overflow a sum.
     fn fits(self, room: usize) -> bool
         ensures { λ r. ⌜ r ≡ leb (length (line-text (self .entry))) room ⌝ }
     {
         match self {
             Line::RefusedFile { refusal, place } => {
-                refusal_len(refusal) + 3 + number_len(place) <= room
+                refusal_len(refusal) + b"at ".len() + number_len(place) <= room
             }
             Line::Handover {
                 number,
@@ -72,20 +73,21 @@ impl<'a> Line<'a> {
                 giver,
                 taker,
                 refusal,
-            } => { 2 + pair_len(giver as u16, taker as u16) + refusal_len(refusal) <= room }
+            } => b"- ".len() + pair_len(giver as u16, taker as u16) + refusal_len(refusal) <= room,
             Line::Question {
                 first,
                 second,
                 relation,
-            } => { pair_len(first, second) + relation_word(relation).len() + 1 <= room }
+            } => pair_len(first, second) + relation_word(relation).len() + 1 <= room,
             Line::RefusedQuestion {
                 first,
                 second,
                 refusal,
-            } => { pair_len(first, second) + refusal_len(refusal) <= room }
+            } => pair_len(first, second) + refusal_len(refusal) <= room,
         }
     }
 
+    // Writes the line, which fits.
     fn put(self, out: &mut [u8]) -> usize
         requires { ⌜ length (line-text self) ≤ length (now out) ⌝ }
         ensures { λ r. ⌜ Wrote (now (out .entry)) 0 (line-text (self .entry)) (now (out .exit)) r ⌝ }

@@ -22,6 +22,7 @@ pub(crate) fn relation_word(relation: Relation) -> &'static [u8]
     }
 }
 
+// How many digits `n` has.
 fn digits(n: u16) -> usize
     ensures value { λ r. ⌜ r ≡ length (decimal n) ⌝ }
     ensures bound { λ r. ⌜ r ≤ 5 ⌝ }
@@ -38,6 +39,8 @@ fn digits(n: u16) -> usize
         5
     }
 }
+
+// Each `.._len` is the length of what the `put_..` of its name writes; the byte after it counts too.
 
 pub(crate) fn number_len(n: u16) -> usize
     ensures value { λ r. ⌜ r ≡ length (number-part n 32) ⌝ }
@@ -57,7 +60,7 @@ pub(crate) fn refusal_len(refusal: Refusal) -> usize
     ensures value { λ r. ⌜ r ≡ length (refusal-part (number refusal) 32) ⌝ }
     ensures bound { λ r. ⌜ r ≤ 14 ⌝ }
 {
-    8 + number_len(refusal.number() as u16)
+    b"refused ".len() + number_len(refusal.number() as u16)
 }
 
 // Do the counts fit `room` bytes, with a comma or the line's end after each?
@@ -67,7 +70,7 @@ pub(crate) fn counts_fit(room: usize, counts: &[u16]) -> bool
     if counts.is_empty() {
         return room > 0;
     }
-    // No count takes more than six bytes: where there is room for that, none need be measured.
+    // No count takes more than six bytes; where there is room for that, none has to be measured.
     if counts.len() <= room / 6 {
         return true;
     }
@@ -84,7 +87,7 @@ pub(crate) fn counts_fit(room: usize, counts: &[u16]) -> bool
 
 // Each of the functions below writes its part from place `at` on and answers the place after it.
 
-// The digits alone, the first by recursion.
+// The digits alone, with no byte after them.
 fn put_digits(out: &mut [u8], at: usize, n: u16) -> usize
     requires { ⌜ at + length (decimal n) ≤ length (now out) ⌝ }
     ensures { λ r. ⌜ Wrote (now (out .entry)) at (decimal n) (now (out .exit)) r ⌝ }

@@ -31,7 +31,12 @@ fn show_stamp<P: Plan>(rt: &LibcRuntime, floor: &Floor<P>, handover: u16) -> Res
 }
 
 // Offers a handover and settles it.
-fn hand<P: Plan>(rt: &LibcRuntime, floor: &mut Floor<P>, giver: u8, taker: u8) -> Result<(), AnyError> {
+fn hand<P: Plan>(
+    rt: &LibcRuntime,
+    floor: &mut Floor<P>,
+    giver: u8,
+    taker: u8,
+) -> Result<(), AnyError> {
     match settled(floor, giver, taker) {
         Ok(handover) => {
             println!(rt, "{giver} to {taker}: handover {handover}")?;
@@ -123,7 +128,11 @@ fn waiting<P: Plan>(rt: &LibcRuntime, floor: &mut Floor<P>) -> Result<(), AnyErr
 }
 
 // An offer of another floor is judged here by its giver and taker alone.
-fn foreign<P: Plan, Q: Plan>(rt: &LibcRuntime, floor: &mut Floor<P>, other: &mut Floor<Q>) -> Result<(), AnyError> {
+fn foreign<P: Plan, Q: Plan>(
+    rt: &LibcRuntime,
+    floor: &mut Floor<P>,
+    other: &mut Floor<Q>,
+) -> Result<(), AnyError> {
     let Ok(offer) = other.offer(0, 1) else {
         return Err("the other floor refused".into());
     };
@@ -132,7 +141,10 @@ fn foreign<P: Plan, Q: Plan>(rt: &LibcRuntime, floor: &mut Floor<P>, other: &mut
         Err((refusal, back)) => {
             let number = refusal.number();
             let home = spend(other, back);
-            println!(rt, "another floor's 0 to 1: refused {number}, and handed back")?;
+            println!(
+                rt,
+                "another floor's 0 to 1: refused {number}, and handed back"
+            )?;
             if let Ok(handover) = home {
                 println!(rt, "settled on its own floor: handover {handover}")?;
             }
@@ -161,9 +173,21 @@ fn fill_up<P: Plan>(rt: &LibcRuntime, floor: &mut Floor<P>) -> Result<(), AnyErr
 fn path(rt: &LibcRuntime) -> Result<GroupPlan, AnyError> {
     let mut plan = GroupPlan::new(GroupRoom::new(rt.alloc())?);
     let routes = [
-        Route { low: 0, high: 1, group: 255 },
-        Route { low: 1, high: 2, group: 255 },
-        Route { low: 2, high: 3, group: 255 },
+        Route {
+            low: 0,
+            high: 1,
+            group: 255,
+        },
+        Route {
+            low: 1,
+            high: 2,
+            group: 255,
+        },
+        Route {
+            low: 2,
+            high: 3,
+            group: 255,
+        },
     ];
     if plan.fill_routes(4, &routes) {
         Ok(plan)

@@ -1,9 +1,9 @@
 // Group plans and the regrouping, on the examples of docs/GROUPING.md.
+use grouping::pairs::GroupPlanPlan;
 use grouping::plan::GroupPlan;
 use grouping::room::GroupRoom;
 use plans::plan::Plan;
 use plans::turns::Turns;
-use grouping::pairs::GroupPlanPlan;
 use routes::route::Group;
 use routes::route::Route;
 use std::test::*;
@@ -57,7 +57,15 @@ fn path_makes_two_stars(rt: LibcRuntime) -> Result<(), Fail> {
 #[test]
 fn square_makes_three_stars(rt: LibcRuntime) -> Result<(), Fail> {
     let mut plan = GroupPlan::new(GroupRoom::new(rt.alloc())?);
-    check(plan.fill_routes(4, &[route(0, 1, 0), route(0, 3, 0), route(1, 2, 0), route(2, 3, 0)]))?;
+    check(plan.fill_routes(
+        4,
+        &[
+            route(0, 1, 0),
+            route(0, 3, 0),
+            route(1, 2, 0),
+            route(2, 3, 0),
+        ],
+    ))?;
     check(plan.groups().len() == 3)?;
     check(is_star(plan.groups(), 0, 0) && is_star(plan.groups(), 1, 1))?;
     check(is_star(plan.groups(), 2, 3))?;
@@ -68,8 +76,24 @@ fn square_makes_three_stars(rt: LibcRuntime) -> Result<(), Fail> {
 #[test]
 fn bridge_between_triangles_is_a_star(rt: LibcRuntime) -> Result<(), Fail> {
     let mut plan = GroupPlan::new(GroupRoom::new(rt.alloc())?);
-    let low = [route(0, 1, 0), route(0, 2, 0), route(1, 2, 0), route(2, 3, 0)];
-    check(plan.fill_routes(6, &[low[0], low[1], low[2], low[3], route(3, 4, 0), route(3, 5, 0), route(4, 5, 0)]))?;
+    let low = [
+        route(0, 1, 0),
+        route(0, 2, 0),
+        route(1, 2, 0),
+        route(2, 3, 0),
+    ];
+    check(plan.fill_routes(
+        6,
+        &[
+            low[0],
+            low[1],
+            low[2],
+            low[3],
+            route(3, 4, 0),
+            route(3, 5, 0),
+            route(4, 5, 0),
+        ],
+    ))?;
     check(plan.groups().len() == 3)?;
     check(is_triangle(plan.groups(), 0, 0, 1, 2))?;
     check(is_triangle(plan.groups(), 1, 3, 4, 5))?;
@@ -95,7 +119,9 @@ fn refused_filling_leaves_the_plan(rt: LibcRuntime) -> Result<(), Fail> {
     check(!plan.fill_routes(33, &[])).note("33 stations")?;
     check(!plan.fill_routes(3, &[route(1, 2, 0), route(0, 1, 0)])).note("not ascending")?;
     check(!plan.fill(3, &[route(0, 1, 0)], &[Group::Star(2)])).note("does not fit")?;
-    check(!plan.fill(3, &[route(0, 1, 0)], &[Group::Star(0), Group::Star(1)])).note("a star without a route")?;
+    check(!plan.fill(3, &[route(0, 1, 0)], &[Group::Star(0), Group::Star(1)])).note(
+        "a star without a route",
+    )?;
     check(plan.stations() == 2 && plan.dials() == 1)?;
     check(stands(plan.routes(), 0, 0, 1, 0) && is_star(plan.groups(), 0, 1))
 }

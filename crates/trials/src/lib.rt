@@ -2,6 +2,8 @@
 #[cfg(test)]
 mod day_files;
 #[cfg(test)]
+mod floors;
+#[cfg(test)]
 mod group_plans;
 #[cfg(test)]
 mod named_plans;
