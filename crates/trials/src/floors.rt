@@ -47,23 +47,17 @@ fn matching_offer_of_another_floor_settles_here(rt: LibcRuntime) -> Result<(), F
     }
     check(matches!(floor.last(1), Ok(Some(0))))?;
     check(matches!(other.last(1), Ok(None))).note("nothing was settled there")?;
-    check(matches!(other.offer_number(0, 1), 12)).note("its pair still waits there")
+    check(offer_number(&mut other, 0, 1) == 12).note("its pair still waits there")
 }
 
 // The number by which an offer is refused; an accepted one is withdrawn, and gives 0.
-trait Tries {
-    fn offer_number(&mut self, giver: u8, taker: u8) -> u8;
-}
-
-impl<P: Plan> Tries for Floor<P> as FloorTries {
-    fn offer_number(&mut self, giver: u8, taker: u8) -> u8 {
-        match self.offer(giver, taker) {
-            Ok(offer) => {
-                let _ = self.withdraw(offer);
-                0
-            }
-            Err(refusal) => refusal.number(),
+fn offer_number<P: Plan>(floor: &mut Floor<P>, giver: u8, taker: u8) -> u8 {
+    match floor.offer(giver, taker) {
+        Ok(offer) => {
+            let _ = floor.withdraw(offer);
+            0
         }
+        Err(refusal) => refusal.number(),
     }
 }
 
@@ -83,7 +77,7 @@ fn numbers_of_no_station_are_not_pending(rt: LibcRuntime) -> Result<(), Fail> {
     let mut large = Floor::new(BookRoom::new(rt.alloc())?, StationPlan::new(6));
     let mut small = Floor::new(BookRoom::new(rt.alloc())?, StationPlan::new(2));
     check(carried_over(&mut large, &mut small) == 14)?;
-    check(large.offer_number(4, 5) == 12).note(
+    check(offer_number(&mut large, 4, 5) == 12).note(
         "the withdrawal elsewhere spent the offer, not the pair",
     )
 }
@@ -93,17 +87,17 @@ fn floor_without_dials_refuses_every_stamp(rt: LibcRuntime) -> Result<(), Fail> 
     let mut floor = Floor::new(BookRoom::new(rt.alloc())?, StationPlan::new(0));
     let mut none: [u16; 0] = [];
     check(matches!(floor.stamp(0, &mut none), Err(Refusal::NotSettled)))?;
-    check(floor.offer_number(0, 1) == 9)?;
+    check(offer_number(&mut floor, 0, 1) == 9)?;
     check(matches!(floor.relation(0, 0), Err(Refusal::NotSettled)))
 }
 
 #[test]
 fn refusals_come_in_their_order(rt: LibcRuntime) -> Result<(), Fail> {
     let mut floor = Floor::new(BookRoom::new(rt.alloc())?, StationPlan::new(2));
-    check(floor.offer_number(2, 2) == 9).note("9 before 10")?;
-    check(floor.offer_number(1, 1) == 10).note("10 before 11")?;
-    check(floor.offer_number(0, 1) == 0)?;
-    check(floor.offer_number(1, 0) == 0).note("withdrawn, so both are free again")?;
+    check(offer_number(&mut floor, 2, 2) == 9).note("9 before 10")?;
+    check(offer_number(&mut floor, 1, 1) == 10).note("10 before 11")?;
+    check(offer_number(&mut floor, 0, 1) == 0)?;
+    check(offer_number(&mut floor, 1, 0) == 0).note("withdrawn, so both are free again")?;
     check(matches!(floor.relation(0, 0), Err(Refusal::NotSettled)))
 }
 
