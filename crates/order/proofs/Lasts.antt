@@ -1,7 +1,7 @@
 -- A station's last entry. Assumes nothing.
-use mathlib.Core.Path.{_≡_, refl, sym, ap, subst, _∙_}
-use mathlib.Core.Logic.{_⊎_, inl, inr, ⊎-elim, _↔_}
-use mathlib.Core.Bool.{Bool, true, false, cond}
+use mathlib.Core.Path.{_≡_, refl, ap, subst}
+use mathlib.Core.Logic.{_⊎_, ⊎-elim}
+use mathlib.Core.Bool.{true, false, cond}
 use mathlib.Core.List.{List}
 use Prim.Native.Nat.{ℕ, zero, suc, _≤_, _<_}
 use native.Mathlib.Omega.{arith}
@@ -10,7 +10,7 @@ use Rattle.std.specs.declared.option.Option.{Option}
 use Rattle.std.specs.declared.option.Option.the-variants.{Some, None}
 use Rattle.std.proofs.shelf.Tests.{cases-lt, cases-order, cond-both, both-ways}
 use Rattle.plans.specs.Meaning.{Entry, has}
-use Rattle.order.specs.Plain.{entry, last-below, last-of, None-has, Is-last, Last-law}
+use Rattle.order.specs.Plain.{entry, last-below, Last-law}
 
 -- o is the last of the first n entries that have s
 abbrev pub Latest : List Entry → ℕ → ℕ → Option ℕ → Type 0

@@ -1,7 +1,7 @@
 -- The numbers of the cases tell them apart. Assumes nothing.
-use mathlib.Core.Path.{_≡_, refl, sym, ap, subst, _∙_}
+use mathlib.Core.Path.{_≡_, refl, ap, subst}
 use mathlib.Core.Logic.{_↔_}
-use mathlib.Core.List.{List, [], _∷_}
+use mathlib.Core.List.{List}
 use Prim.Native.Nat.{ℕ}
 use native.Mathlib.Omega.{arith}
 use lib.ListN.{getD}
@@ -9,7 +9,6 @@ use Rattle.std.specs.declared.option.Option.{Option}
 use Rattle.std.specs.declared.option.Option.the-variants.{Some, None}
 use Rattle.plans.specs.Meaning.{Entry}
 use Rattle.order.specs.declared.kinds.Relation.{Relation}
-use Rattle.order.specs.declared.kinds.Relation.the-variants.{Same, Before, After, Beside}
 use Rattle.order.specs.Numbers.{relation-number, last-number}
 use Rattle.order.specs.Chains.{Stands}
 use Rattle.order.proofs.Chains.{one-relation}

@@ -1,10 +1,8 @@
-use mathlib.Core.Path.{_≡_, refl, sym, ap, ap₂, subst, _∙_}
+use mathlib.Core.Path.{sym, subst}
 use native.Mathlib.Omega.{arith}
-use Prim.Native.Nat.{_+_, _-_, _≤_}
+use Prim.Native.Nat.{_+_, _-_}
 use Rattle.std.specs.Of.Vec.{vec-cap, vec-len}
-use Rattle.book.specs.declared.stamp.Stamp.{Stamp}
-use Rattle.book.specs.Counts.{Joined}
-use Rattle.book.specs.Stations.{Kept, station}
+use Rattle.book.specs.Stations.{Kept}
 use Rattle.book.proofs.Seeing.{stamped-is}
 use Rattle.book.proofs.Keeping.{kept-settled, some-pending, joined-is}
 use Rattle.book.proofs.book.Book.settle.Needs as need

@@ -1,8 +1,8 @@
 use Prim.Native.Nat.{ℕ}
 use native.Mathlib.Omega.{arith}
 use lib.Dec.{ltb}
-use Rattle.std.specs.declared.result.Result.the-variants.{Ok, Err}
-use Rattle.std.proofs.shelf.Tests.{cond-true, cond-false, lt-ltb, le-ltb}
+use Rattle.std.specs.declared.result.Result.the-variants.{Ok}
+use Rattle.std.proofs.shelf.Tests.{cond-true, lt-ltb}
 use Rattle.refusals.specs.Number.{number}
 use Rattle.refusals.specs.declared.Refusal.the-variants.{NoStation}
 use Rattle.book.proofs.Histories.{last-run}

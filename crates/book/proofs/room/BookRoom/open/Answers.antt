@@ -1,6 +1,6 @@
 use mathlib.Core.Path.{sym, ap, subst, _∙_}
 use lib.ListN.{length}
-use Rattle.std.specs.Of.Vec.{vec-cap, vec-len}
+use Rattle.std.specs.Of.Vec.{vec-cap}
 use Rattle.book.specs.Stations.{Kept}
 use Rattle.book.proofs.Keeping.{kept-new}
 use Rattle.book.proofs.room.BookRoom.open.Needs as need
