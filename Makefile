@@ -1,5 +1,5 @@
-# `make run` prints the plan of the sample day; `make test` is the gate.
-.PHONY: run test
+# `make run` prints the plan of the sample day; `make test` is the gate; `make bench` compares instructions with plain Rust.
+.PHONY: run test bench
 
 run:
 	@mkdir -p target
@@ -8,3 +8,8 @@ run:
 
 test:
 	@.ci/run
+
+bench:
+	@mkdir -p target
+	@rt check floorplan pace > target/make-bench.log 2>&1 || { tail -n 30 target/make-bench.log; exit 1; }
+	@bench/run
