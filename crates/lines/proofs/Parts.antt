@@ -82,8 +82,8 @@ counts-last xs h =
     let i = length xs - 1 in
     counts-push (take i xs) (getD xs i 0) ∙ ap counts-part (sym (take-more xs i 0 (omega arith)) ∙ take-all (i + 1) xs (omega arith))
 
-pub length-counts-last : (xs : List ℕ) → 0 < length xs → length (counts-part xs) ≡ length (numbers-part (take (length xs - 1) xs)) + length (number-part (getD xs (length xs - 1) 0) 10)
-length-counts-last xs h = ap length (sym (counts-last xs h)) ∙ length-append (numbers-part (take (length xs - 1) xs)) (number-part (getD xs (length xs - 1) 0) 10)
+pub length-counts-last : (xs : List ℕ) → 0 < length xs → length (counts-part xs) ≡ length (numbers-part (take (length xs - 1) xs)) + (length (decimal (getD xs (length xs - 1) 0)) + 1)
+length-counts-last xs h = ap length (sym (counts-last xs h)) ∙ simp (length-append, length-part)
 
 pub length-counts-none : (xs : List ℕ) → length xs ≡ 0 → length (counts-part xs) ≡ 1
 length-counts-none xs e = rw (commas-none xs e) (length-part [] 10)

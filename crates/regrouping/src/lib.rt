@@ -1,11 +1,2 @@
-//! Theory alone: the three rules by which routes are grouped, and their laws.
-ghost use Rattle.regrouping.specs.Examples.{Bridge-example, Path-example, Square-example};
-
-// Three tables and how they are grouped.
-pub fn regroup_examples() -> u8
-    ensures path { λ _. ⌜ Path-example ⌝ }
-    ensures square { λ _. ⌜ Square-example ⌝ }
-    ensures bridge { λ _. ⌜ Bridge-example ⌝ }
-{
-    0
-}
+//! Theory alone: the three rules by which routes are grouped, and their laws. The group plan's
+//! regrouping call promises them, and the table of worked examples has three tables and their groups.

@@ -8,7 +8,7 @@ use Rattle.book.proofs.Keeping.{kept-settled, some-pending, joined-is}
 use Rattle.book.proofs.book.Book.settle.Needs as need
 
 pub sub-self : need.sub-self
-sub-self c = some-pending _ _ _ _ _ _ (c .args .self .now .kept) (c .pre .ready)
+sub-self c = omega (arith, some-pending _ _ _ _ _ _ (c .args .self .now .kept) (c .pre .ready))
 
 pub push-reserved-requires : need.push-reserved-requires
 push-reserved-requires c κs =

@@ -1,4 +1,5 @@
 use mathlib.Core.Path.{sym, subst}
+use native.Mathlib.Omega.{arith}
 use Prim.Native.Nat.{_-_}
 use Rattle.std.specs.Of.Vec.{vec-cap, vec-len}
 use Rattle.book.specs.Stations.{Kept}
@@ -6,7 +7,7 @@ use Rattle.book.proofs.Keeping.{kept-freed, some-pending, ready-withdraw}
 use Rattle.book.proofs.book.Book.withdraw.Needs as need
 
 pub sub-self : need.sub-self
-sub-self c = some-pending _ _ _ _ _ _ (c .args .self .now .kept) (ready-withdraw _ _ _ (c .pre))
+sub-self c = omega (arith, some-pending _ _ _ _ _ _ (c .args .self .now .kept) (ready-withdraw _ _ _ (c .pre)))
 
 pub ghost-self : need.ghost-self
 ghost-self c =

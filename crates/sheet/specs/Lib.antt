@@ -1,0 +1,4 @@
+pub mod Text
+pub mod Day
+pub mod Sheet
+pub mod Steps

@@ -1,0 +1,5 @@
+mod Stamps
+mod SampleFile
+mod Questions
+mod Handovers
+mod SampleSheet
