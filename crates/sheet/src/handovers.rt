@@ -32,12 +32,12 @@ fn handover_at(file: &DayFile, index: usize) -> Option<(u8, u8)>
 }
 
 // The counts of a settled handover, in the first places.
-fn counts_of(floor: &Floor<GroupPlan>, number: u16) -> [u16; 32]
-    requires { ⌜ number < settled-in (now floor .book) ⌝ }
-    ensures { λ r. ⌜ Counts-in (now (floor .entry)) number r ⌝ }
+fn counts_of(floor: &Floor<GroupPlan>, handover: u16) -> [u16; 32]
+    requires { ⌜ handover < settled-in (now floor .book) ⌝ }
+    ensures { λ r. ⌜ Counts-in (now (floor .entry)) handover r ⌝ }
 {
     let mut counts = [0; 32];
-    let _ = floor.stamp(number, &mut counts);
+    let _ = floor.stamp(handover, &mut counts);
     counts
 }
 
