@@ -35,5 +35,5 @@ returns-in-Err c =
     let refused = c .in-Err .ensures tt .verdict ∙ ap (λ b. file-verdict (now b)) (c .open .ensures) in
     record {
       verdict = refused;
-      text = printed-refusal (c .args .bytes .now) (c .in-Err .e) (c .number .result) (added-alone (c .put-refusal .ensures) (c .clear .ensures .items)) (c .number .ensures) refused;
+      text = printed-refusal (c .args .bytes .now) (c .in-Err .e) (c .number .result) (added-alone (c .put-refusal .ensures) (c .clear .ensures .items)) (c .number .ensures .exact) refused;
     }
