@@ -1,5 +1,8 @@
 //! Writes the largest day file on standard output: the complete floor of 32 stations with its groups built, 1,000 handovers
 //! and 1,000 questions from a fixed seed.
+// only the making of sound files is used of the two modules
+#![allow(dead_code)]
+
 mod days;
 mod model;
 
