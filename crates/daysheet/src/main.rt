@@ -1,3 +1,5 @@
+#![tactic(auto)]
+
 // Reads a day file from standard input, and prints its sheet: a line for each handover, then one for each question.
 ghost use Rattle.std.specs.Prelude.{◌≤◌, length, IfOk};
 

@@ -1,3 +1,5 @@
+#![tactic(auto)]
+
 // Reads a day file from standard input, and prints its floor: stations, counts, and each group with its routes.
 ghost use Rattle.std.specs.Prelude.{◌≤◌, length, IfOk};
 

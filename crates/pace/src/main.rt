@@ -1,3 +1,5 @@
+#![tactic(auto)]
+
 // What a relation and a settlement cost: bench/run counts the instructions of this program, and of plain Rust that does
 // the same, for few and for many of each. Arguments: stations, handovers (at most 1,000), questions.
 use book::floor::Floor;

@@ -1,10 +1,11 @@
 //! Every refusal of the handover book, each with its number.
-ghost use Rattle.std.specs.Prelude.{◌≡◌, Some, Decides};
+#![tactic(auto)]
+
+ghost use Rattle.std.specs.Prelude.{◌≡◌, ◌==◌, Some, Decides};
 ghost use Rattle.refusals.specs.Number.{number, refusal_of};
 ghost use Rattle.refusals.specs.Advice.{advice};
 ghost use Rattle.std.specs.Cmp.Rules.{comparing};
 ghost use Rattle.std.proofs.Common.{rules};
-ghost use Rattle.std.specs.Cmp as Keys;
 
 // Why a call was refused. docs/REFUSALS.md has a line for each, with what to do.
 #[derive(Clone, Copy, Eq, Debug)]
@@ -99,11 +100,14 @@ impl Refusal {
 
 // Two refusals are equal exactly when their numbers are.
 impl PartialEq for Refusal {
-    ghost equals = { λ x y r. Decides r (x ≡ y) };
+    ghost eq = { λ x y. number x == number y };
 
-    ghost laws = { Keys.partial_equiv_from_equiv (Prim.search (comparing, rules)) };
+    ghost laws = { Prim.search (comparing, rules) };
 
-    fn eq(&self, other: &Refusal) -> bool {
+    fn eq(&self, other: &Refusal) -> bool
+        ensures numbers { result ≡ (number self.now == number other.now) }
+        ensures same { Decides result (self.now ≡ other.now) }
+    {
         self.number() == other.number()
     }
 }

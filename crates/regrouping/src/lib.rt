@@ -1,5 +1,7 @@
 //! Theory alone: the three rules by which routes are grouped, and their laws. The group plan's
 //! regrouping call promises them, and the table of worked examples has three tables and their groups.
+#![tactic(auto)]
+
 ghost use Rattle.std.specs.Prelude.{◌≡◌, ℕ, true, List};
 ghost use Rattle.routes.specs.declared.route.Route.{Route};
 ghost use Rattle.routes.specs.Order.{ends, ordered};

@@ -1,3 +1,5 @@
+#![tactic(auto)]
+
 // A scene on the floor of a shop: a pile of plans, offers that wait, a withdrawal, and a refusal of each kind.
 use anyhow::anyhow;
 use book::floor::Floor;

@@ -1,4 +1,6 @@
 //! The whole day sheet: one function from a day file's bytes to the sheet's bytes.
+#![tactic(auto)]
+
 mod handovers;
 pub mod page;
 mod questions;

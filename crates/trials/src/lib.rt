@@ -1,4 +1,6 @@
 //! Tests of the layers on worked examples. They stand in a crate of their own, since a crate with tests is proved twice.
+#![tactic(auto)]
+
 #[cfg(test)]
 mod day_files;
 #[cfg(test)]
