@@ -57,35 +57,35 @@ pub returns-in_err-layout : goal.returns-in_err-layout
 returns-in_err-layout c =
     let bs = c.args.bytes.now in
     let told = layout_fails bs c.in_err-layout.ensures.verdict in
-    let verdict : verdict_of c.from-residual.result ≡ file_verdict bs = search rules in
+    let verdict : verdict_of c.from_residual.result ≡ file_verdict bs = search rules in
     record { verdict = verdict; layout = search rules; groups = judged bs _ verdict }
 
 pub returns-in_err-refuse_route : goal.returns-in_err-refuse_route
 returns-in_err-refuse_route c =
     let bs = c.args.bytes.now in
     let told = fails (orders (goal.at.returns-in_err-refuse_route c).After-first_unordered) c.in_err-refuse_route.ensures in
-    let verdict : verdict_of c.from-residual-in_err-refuse_route.result ≡ file_verdict bs = search rules in
+    let verdict : verdict_of c.from_residual-in_err-refuse_route.result ≡ file_verdict bs = search rules in
     record { verdict = verdict; layout = search rules; groups = judged bs _ verdict }
 
 pub returns-in_err-refuse_group : goal.returns-in_err-refuse_group
 returns-in_err-refuse_group c =
     let bs = c.args.bytes.now in
     let told = fails (records (goal.at.returns-in_err-refuse_group c).After-first_no_group) c.in_err-refuse_group.ensures in
-    let verdict : verdict_of c.from-residual-in_err-refuse_group.result ≡ file_verdict bs = search rules in
+    let verdict : verdict_of c.from_residual-in_err-refuse_group.result ≡ file_verdict bs = search rules in
     record { verdict = verdict; layout = search rules; groups = judged bs _ verdict }
 
 pub returns-in_err-refuse_route-2 : goal.returns-in_err-refuse_route-2
 returns-in_err-refuse_route-2 c =
     let bs = c.args.bytes.now in
     let told = fails (members (goal.at.returns-in_err-refuse_route-2 c).After-first_unfit) c.in_err-refuse_route-2.ensures in
-    let verdict : verdict_of c.from-residual-in_err-refuse_route-2.result ≡ file_verdict bs = search rules in
+    let verdict : verdict_of c.from_residual-in_err-refuse_route-2.result ≡ file_verdict bs = search rules in
     record { verdict = verdict; layout = search rules; groups = judged bs _ verdict }
 
 pub returns-in_err-refuse_group-2 : goal.returns-in_err-refuse_group-2
 returns-in_err-refuse_group-2 c =
     let bs = c.args.bytes.now in
     let told = fails (wholes (goal.at.returns-in_err-refuse_group-2 c).After-first_incomplete) c.in_err-refuse_group-2.ensures in
-    let verdict : verdict_of c.from-residual-in_err-refuse_group-2.result ≡ file_verdict bs = search rules in
+    let verdict : verdict_of c.from_residual-in_err-refuse_group-2.result ≡ file_verdict bs = search rules in
     record { verdict = verdict; layout = search rules; groups = judged bs _ verdict }
 
 pub returns : goal.returns

@@ -18,8 +18,8 @@ best_route-requires c =
 pub offset_bounds-routes-i : goal.offset_bounds-routes-i
 offset_bounds-routes-i c = omega (arith, (best_some c.take_triangles.new.routes c.in-Some.i (sym c.in-Some.ensures)).remains.place, c.take_triangles.ensures.ready.short)
 
-pub slice-copy-out·r : goal.slice-copy-out·r
-slice-copy-out·r c = (best_some c.take_triangles.new.routes c.in-Some.i (sym c.in-Some.ensures)).remains.place
+pub slice_copy_out-r : goal.slice_copy_out-r
+slice_copy_out-r c = (best_some c.take_triangles.new.routes c.in-Some.i (sym c.in-Some.ensures)).remains.place
 
 pub star_at-requires : goal.star_at-requires
 star_at-requires c =

@@ -6,7 +6,7 @@ use Rattle.sheet.proofs.handovers.handover_at.Goals as goal
 
 pub returns-in_err-pair : goal.returns-in_err-pair
 returns-in_err-pair c =
-    c.from-residual.ensures ∙ handover_gone c.args.file.now.bytes c.args.index (ap told_if (sym c.in_err-pair.was) ∙ c.record.ensures)
+    c.from_residual.ensures ∙ handover_gone c.args.file.now.bytes c.args.index (ap told_if (sym c.in_err-pair.was) ∙ c.record.ensures)
 
 pub returns-in-Handover : goal.returns-in-Handover
 returns-in-Handover c =

@@ -7,7 +7,7 @@ use Rattle.sheet.proofs.questions.question_at.Goals as goal
 
 pub returns-in_err-pair : goal.returns-in_err-pair
 returns-in_err-pair c =
-    c.from-residual.ensures ∙ question_gone c.args.file.now.bytes c.args.index (ap told_if (sym c.in_err-pair.was) ∙ c.record.ensures)
+    c.from_residual.ensures ∙ question_gone c.args.file.now.bytes c.args.index (ap told_if (sym c.in_err-pair.was) ∙ c.record.ensures)
 
 pub returns-in-Question : goal.returns-in-Question
 returns-in-Question c =

@@ -17,7 +17,7 @@ invariant_of-self c =
     let e = simp (c.set_stamp.ensures, c.act_both.ensures) at c.set_stamp-2.ensures in
     let k = kept_settled _ _ _ _ _ _ _ _ c.join-stamp.result b.kept c.requires.ready j in
     let p = c.push_reserved.ensures in
-    (simp (p.len, p.capacity, e) k, tt)
+    record { kept = simp (p.len, p.capacity, e) k }
 
 pub returns : goal.returns
 returns c =

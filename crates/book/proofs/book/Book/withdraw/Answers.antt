@@ -8,4 +8,4 @@ overflow_sub-self c = omega (arith, some_pending _ _ _ _ _ _ c.args.self.now.kep
 pub invariant_of-self : goal.invariant_of-self
 invariant_of-self c =
     let b = c.args.self.now in
-    (simp c.act_both.ensures (kept_freed _ _ _ _ _ _ b.kept (ready_withdraw _ _ _ c.requires)), tt)
+    record { kept = simp c.act_both.ensures (kept_freed _ _ _ _ _ _ b.kept (ready_withdraw _ _ _ c.requires)) }

@@ -11,7 +11,12 @@ invariant_of-self c =
     let t = c.args.routes.now in
     let a = accepted c.args.stations t (sym c.is_acceptable.ensures ∙ c.if-not-is_acceptable.false) in
     let q = came_back c.args.stations t a.0 a.1 a.2 v.len _ c.regroup_routes.new.routes v.items (vec_items c.regroup_routes.new.groups) c.regroup_routes.ensures.written (c.deref_mut.ensures.value ∙ c.copy_routes.ensures.items) (v.ok.0 ∙ ap length c.copy_routes.ensures.items) in
-    ((a.0, q.short, q.few), ((omega (arith, c.copy_routes.ensures.capacity, c.args.self.now.room.0), omega (arith, c.regroup_routes.ensures.capacity, c.args.self.now.room.1)), (q.ordered, (q.split, tt))))
+    record {
+      few = (a.0, q.short, q.few);
+      room = (omega (arith, c.copy_routes.ensures.capacity, c.args.self.now.room.0), omega (arith, c.regroup_routes.ensures.capacity, c.args.self.now.room.1));
+      ordered = q.ordered;
+      decomposed = q.split;
+    }
 
 pub returns : goal.returns
 returns c =

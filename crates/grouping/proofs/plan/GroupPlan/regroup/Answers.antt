@@ -9,7 +9,12 @@ pub invariant_of-self : goal.invariant_of-self
 invariant_of-self c =
     let p = c.args.self.now in
     let q = came_back p.stations (vec_items p.routes) p.few.0 p.few.1 p.ordered p.routes.len _ c.regroup_routes.new.routes p.routes.items (vec_items c.regroup_routes.new.groups) c.regroup_routes.ensures.written c.deref_mut.ensures.value p.routes.ok.0 in
-    ((p.few.0, q.short, q.few), ((p.room.0, omega (arith, c.regroup_routes.ensures.capacity, p.room.1)), (q.ordered, (q.split, tt))))
+    record {
+      few = (p.few.0, q.short, q.few);
+      room = (p.room.0, omega (arith, c.regroup_routes.ensures.capacity, p.room.1));
+      ordered = q.ordered;
+      decomposed = q.split;
+    }
 
 pub returns : goal.returns
 returns c =
