@@ -1,6 +1,8 @@
-use Rattle.std.proofs.Common.{ℕ, List, length, sym, ap, ◌∙◌, arith, Bor, rules}
+use Rattle.std.proofs.Common.{ℕ, List, length, sym, ap, ◌∙◌, subst, arith, Bor, rules}
 use Rattle.lines.proofs.Bounds.{refused_file_le}
 use Rattle.dayfile.specs.Check.{file_verdict}
+use Rattle.sheet.specs.Text.{written}
+use Rattle.sheet.specs.Sheet.{IsSheet}
 use Rattle.sheet.specs.Steps.{bytes_of}
 use Rattle.sheet.proofs.Records.{few_handovers}
 use Rattle.sheet.proofs.Printing.{plan_read, day_text, sheet_day}
@@ -24,9 +26,9 @@ returns c =
     let file = c.open-file.result in
     let v = c.in_default.ensures.verdict in
     let text =
-    day_text (bytes_of file) (written_none c.args.self.page c.args.self.empty) (plan_read (bytes_of file) c.new_floor.ensures.opened.plan c.in_default.ensures.floor)
+    day_text (bytes_of file) (written_none c.args.self.page c.args.self.empty) (plan_read (bytes_of file) c.new-floor.ensures.opened.plan c.in_default.ensures.floor)
     c.put_handovers.ensures c.put_questions.ensures in
     record {
-      sheet = simp c.open-file.ensures at (sheet_day (bytes_of file) _ v text);
+      sheet = subst (λ (b : Bor (List ℕ)). IsSheet b.now (written c.put_questions.new.out)) c.open-file.ensures (sheet_day (bytes_of file) _ v text);
       refusal = v ∙ ap (λ (b : Bor (List ℕ)). file_verdict b.now) c.open-file.ensures;
     }
