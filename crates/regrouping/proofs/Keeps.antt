@@ -1,5 +1,5 @@
 -- Each step keeps `Ready`.
-use Rattle.std.proofs.Common.{◌≡◌, ℕ, zero, suc, ◌-◌, ◌<◌, true, ◌&&◌, eqb, ltb, List, [], ◌∷◌, length, Some, None, Option, refl, ap, ◌∙◌, arith}
+use Rattle.std.proofs.Common.{◌≡◌, ℕ, zero, suc, ◌<◌, true, ◌&&◌, eqb, ltb, List, [], ◌∷◌, length, Some, None, Option, refl, ap, ◌∙◌, arith}
 use Rattle.std.specs.List.{AllByRecursion as All}
 use Rattle.std.proofs.lemmas.Bool.Decides.{nat_tests}
 use Rattle.std.proofs.ByRecursion.{All-weaker}
@@ -11,7 +11,7 @@ use Rattle.routes.specs.declared.route.Group.TheVariants.{Star, Triangle}
 use Rattle.routes.specs.Tests.{every}
 use Rattle.routes.specs.Order.{pair, ends, inside, ascending, ordered}
 use Rattle.routes.specs.Groups.{fits}
-use Rattle.regrouping.specs.Table.{degree, loose, answer, lone, leaf, triangle, best}
+use Rattle.regrouping.specs.Table.{degree, loose, answer, leaf, triangle, best}
 use Rattle.regrouping.specs.Steps.{Work, in_group, marked, mark, write, mate, leaves, triangles, star, heaviest, round, rounds, some_open, Inside, Ready}
 use Rattle.regrouping.proofs.Taking.{leaf_some, triangle_some}
 use Rattle.regrouping.proofs.Live.{degree_mark_le, degree_star, loose_spent, live_less}

@@ -8,7 +8,6 @@ use Rattle.order.proofs.Chains.{one_relation}
 use Rattle.dayfile.specs.declared.refusal.FileRefusal.{FileRefusal}
 use Rattle.dayfile.specs.Check.{file_verdict}
 use Rattle.lines.specs.Line.{handover_line, question_line}
-use Rattle.sheet.specs.Day.{handed}
 use Rattle.sheet.specs.Sheet.{Counts, HandoverLine, QuestionLine, refused, settled, related, Lines, TextBy, OneSheet}
 
 one_count : {m : Meaning} {es : List Entry} {k i n n' : ℕ} → IsCount m es k i n → IsCount m es k i n' → n ≡ n'
