@@ -38,9 +38,8 @@ pub fn check_file(bytes: &[u8]) -> Result<Layout, FileRefusal>
     Ok(layout)
 }
 
-// For C: 0, or the refusal's number times 65,536 plus its place.
-#[unsafe(no_mangle)]
-pub extern "C" fn day_file_check(bytes: &[u8]) -> u32
+// For C, which calls it through the static library `dayfile_c`: 0, or the refusal's number times 65,536 plus its place.
+pub fn day_file_check(bytes: &[u8]) -> u32
     ensures packed { result ≡ packed (file_verdict bytes.now) }
     ensures apart { TakenApart (file_verdict bytes.now) result }
 {
