@@ -21,11 +21,18 @@ fn words(text: &str) -> impl Iterator<Item = &str> {
     text.split(|c: char| c.is_whitespace() || "(){};,.@⌜⌝«»".contains(c)).filter(|w| !w.is_empty())
 }
 
-/// The name that a line defines, if it begins a definition that others can cite.
-fn defined(line: &str) -> Option<&str> {
-    let rest = ["abbrev pub ", "unfoldable pub ", "pub record ", "pub data ", "pub "].iter().find_map(|p| line.strip_prefix(p))?;
-    let name = words(rest).next()?;
-    (name != "mod" && name != "use").then_some(name)
+/// The name that a line defines, and whether others can cite it.
+fn defined(line: &str) -> Option<(&str, bool)> {
+    let code = line.trim_start();
+    if let Some(rest) = ["abbrev pub ", "unfoldable pub ", "pub record ", "pub data ", "pub "].iter().find_map(|p| code.strip_prefix(p)) {
+        let name = words(rest).next()?;
+        return (name != "mod" && name != "use").then_some((name, true));
+    }
+    // a definition of the file's own, such as a lemma on the way to a law of an impl
+    let rest = ["abbrev ", "record ", "data "].iter().find_map(|p| code.strip_prefix(p)).unwrap_or(code);
+    let (name, _) = rest.split_once(" : ")?;
+    let name = if rest.len() < code.len() { words(name).next()? } else { name };
+    (!name.is_empty() && !name.contains(|c: char| c.is_whitespace() || "(){}".contains(c))).then_some((name, false))
 }
 
 fn main() {
@@ -48,9 +55,14 @@ fn main() {
                 let code = line.split("--").next().unwrap_or("");
                 if line.trim().is_empty() {
                     current = None;
-                } else if let Some(name) = defined(code) {
-                    places.push((name.to_string(), path.clone()));
-                    current = Some(name.to_string());
+                } else if current.is_none() || !line.starts_with(' ') {
+                    // an indented line after another is a field of a record, or a part of a definition
+                    if let Some((name, public)) = defined(code) {
+                        if public {
+                            places.push((name.to_string(), path.clone()));
+                        }
+                        current = Some(name.to_string());
+                    }
                 }
                 if let Some(name) = &current {
                     bodies.entry(name.clone()).or_default().push_str(&format!("{code}\n"));

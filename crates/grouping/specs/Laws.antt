@@ -31,10 +31,10 @@ meet_shares : (e f : Entry) → Meet e.0 e.1 f.0 f.1 → shares e f ≡ true
 meet_shares e f m = grind (arith, nat_tests)
 
 pub group_lawful : (n : ℕ) (t : List Route) (gs : List Group) → n ≤ 32 → length gs ≤ 32 → ordered n (ends t) ≡ true → decomposed t gs ≡ true → Lawful (group_meaning (given n t gs))
-group_lawful n t gs few few-groups o d =
+group_lawful n t gs few few_groups o d =
     record {
       few_stations = few;
-      few_dials = few-groups;
+      few_dials = few_groups;
       inside = λ a b h. not_route (between t a b) (λ g e. omega (arith, (between_inside n t a b g o e).0));
       reversed = λ a b. ap dial (between_comm t a b);
       no_loop = λ a. not_route (between t a a) (λ g e. (between_inside n t a a g o e).2 refl);
