@@ -1,6 +1,6 @@
 // How many remaining routes each station has, kept beside the routes.
 ghost use Rattle.std.specs.Prelude.{◌≡◌, ℕ, ◌+◌, ◌-◌, ◌<◌, ◌≤◌, length, if◌then◌else◌, slice_index};
-ghost use Rattle.std.specs.List.{AllByRecursion as All};
+ghost use Rattle.std.specs.List.{AllByRecursion};
 ghost use Rattle.regrouping.specs.Table.{Counted, touches};
 ghost use Rattle.regrouping.specs.Steps.{Inside};
 
@@ -28,7 +28,7 @@ pub(crate) fn one_less(degrees: &mut [u16; 32], r: Route)
 
 // How many remaining routes each station has.
 pub(crate) fn count_routes(routes: &[Route]) -> [u16; 32]
-    requires inside { All (Inside 32) routes.now }
+    requires inside { AllByRecursion (Inside 32) routes.now }
     requires short { length routes.now ≤ 496 }
     ensures { Counted result routes.now }
 {

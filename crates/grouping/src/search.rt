@@ -1,6 +1,6 @@
 // What the three rules ask of the routes that remain, those without a group yet.
 ghost use Rattle.std.specs.Prelude.{◌≡◌, ℕ, ◌+◌, ◌-◌, ◌<◌, ◌≤◌, true, length, slice_index};
-ghost use Rattle.std.specs.List.{AllByRecursion as All};
+ghost use Rattle.std.specs.List.{AllByRecursion};
 ghost use Rattle.routes.specs.Order.{ascending, ends};
 ghost use Rattle.regrouping.specs.Table.{Counted, best, loose, lowest_lone, remains, triangle};
 ghost use Rattle.regrouping.specs.Steps.{Inside, mate, some_open};
@@ -95,7 +95,7 @@ pub(crate) fn weight_of(r: Route, degrees: &[u16; 32]) -> u16
 
 // The place of the heaviest route, the first in ascending order.
 pub(crate) fn best_route(routes: &[Route], degrees: &[u16; 32]) -> Option<usize>
-    requires inside { All (Inside 32) routes.now }
+    requires inside { AllByRecursion (Inside 32) routes.now }
     requires short { length routes.now ≤ 496 }
     requires counted { Counted degrees.now routes.now }
     ensures { result ≡ best routes.now }

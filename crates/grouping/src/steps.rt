@@ -1,6 +1,6 @@
 // The three rules, as steps that write groups.
 ghost use Rattle.std.specs.Prelude.{◌≡◌, ℕ, ◌+◌, ◌-◌, ◌<◌, ◌≤◌, true, length, vec_len, vec_capacity};
-ghost use Rattle.std.specs.List.{AllByRecursion as All};
+ghost use Rattle.std.specs.List.{AllByRecursion};
 ghost use Rattle.routes.specs.Order.{ends, ordered};
 ghost use Rattle.regrouping.specs.Table.{Counted, degree};
 ghost use Rattle.regrouping.specs.Steps.{Inside, Ready, leaves, mark, opened, regrouped, round, rounds, star, triangles, work, write};
@@ -11,7 +11,7 @@ use routes::route::{Group, Route};
 
 // Gives the group g to each remaining route that fits the group k; its ends have one remaining route less.
 pub(crate) fn take_routes(routes: &mut [Route], degrees: &mut [u16; 32], k: Group, g: u8)
-    requires inside { All (Inside 32) routes.old }
+    requires inside { AllByRecursion (Inside 32) routes.old }
     requires counted { Counted degrees.old routes.old }
     requires number { g < 255 }
     ensures marked { routes.new ≡ mark k g routes.old }
@@ -32,7 +32,7 @@ pub(crate) fn write_group(
     degrees: &mut [u16; 32],
     k: Group,
 )
-    requires inside { All (Inside 32) routes.old }
+    requires inside { AllByRecursion (Inside 32) routes.old }
     requires counted { Counted degrees.old routes.old }
     requires room { vec_len groups.old < vec_capacity groups.old }
     requires few { vec_len groups.old < 255 }
@@ -95,7 +95,7 @@ pub(crate) fn take_triangles(
 // A star at c, where c has a remaining route.
 pub(crate) fn star_at(routes: &mut [Route], groups: &mut Vec<Group>, degrees: &mut [u16; 32], c: u8)
     requires cap { 32 ≤ vec_capacity groups.old }
-    requires inside { All (Inside 32) routes.old }
+    requires inside { AllByRecursion (Inside 32) routes.old }
     requires station { c < 32 }
     requires counted { Counted degrees.old routes.old }
     requires room { 0 < degree routes.old c → vec_len groups.old < 32 }

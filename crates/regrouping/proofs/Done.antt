@@ -1,6 +1,6 @@
 -- The run leaves no route without a group.
 use Rattle.std.proofs.Common.{◌≡◌, ℕ, zero, suc, ◌+◌, ◌<◌, ◌≤◌, false, cond, ◌&&◌, ◌||◌, eqb, List, [], ◌∷◌, length, get_or, None, refl, ap, ◌∙◌, subst, ⊎_elim, arith}
-use Rattle.std.specs.List.{AllByRecursion as All}
+use Rattle.std.specs.List.{AllByRecursion}
 use Rattle.std.proofs.lemmas.Bool.Decides.{nat_tests}
 use Rattle.std.proofs.ByRecursion.{All-from_get_or}
 use Rattle.std.proofs.lemmas.Bool.{cond_both, cases_Bool, cases_lt, or_parts, or_from, eqb-true}
@@ -24,7 +24,7 @@ live_pos t (suc n) s h p =
     (λ l. let e : s ≡ n = omega arith in let p' : 0 < degree t n = subst (λ x. 0 < degree t x) e p in grind (arith, nat_tests)) (cases_lt s n)
 
 abbrev pub Closed : List Route → Type 0
-Closed t = All (λ r. eqb r.group 255 ≡ false) t
+Closed t = AllByRecursion (λ r. eqb r.group 255 ≡ false) t
 
 closed_degree : (t : List Route) (s : ℕ) → Closed t → degree t s ≡ 0
 closed_degree [] s h = refl

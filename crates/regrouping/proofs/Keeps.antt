@@ -1,6 +1,6 @@
 -- Each step keeps `Ready`.
 use Rattle.std.proofs.Common.{◌≡◌, ℕ, zero, suc, ◌<◌, true, ◌&&◌, eqb, ltb, List, [], ◌∷◌, length, Some, None, Option, refl, ap, ◌∙◌, arith}
-use Rattle.std.specs.List.{AllByRecursion as All}
+use Rattle.std.specs.List.{AllByRecursion}
 use Rattle.std.proofs.lemmas.Bool.Decides.{nat_tests}
 use Rattle.std.proofs.ByRecursion.{All-weaker}
 use Rattle.std.proofs.lemmas.List.{length_push, length-map}
@@ -40,24 +40,24 @@ pub ends_mark : (k : Group) (g : ℕ) (t : List Route) → ends (mark k g t) ≡
 ends_mark k g [] = refl
 ends_mark k g (r ∷ rs) = let e = ends_marked k g r in let i = ends_mark k g rs in cc
 
-pub inside_all : (n : ℕ) (t : List Route) → every (inside n) (ends t) ≡ true → All (Inside n) t
+pub inside_all : (n : ℕ) (t : List Route) → every (inside n) (ends t) ≡ true → AllByRecursion (Inside n) t
 inside_all n [] e = tt
 inside_all n (r ∷ rs) e =
     let u = and_parts (inside n (r.low, r.high)) _ e in
     let v = and_parts (ltb r.low r.high) _ u.0 in
     ((ltb-true r.low r.high v.0, ltb-true r.high n v.1), inside_all n rs u.1)
 
-pub ready_inside : (n : ℕ) (w : Work) → Ready n w → All (Inside n) w.table
+pub ready_inside : (n : ℕ) (w : Work) → Ready n w → AllByRecursion (Inside n) w.table
 ready_inside n w r = inside_all n w.table (and_parts (every (inside n) (ends w.table)) _ r.ordered).0
 
 pub ready_ascending : (n : ℕ) (w : Work) → Ready n w → ascending (ends w.table) ≡ true
 ready_ascending n w r = (and_parts (every (inside n) (ends w.table)) _ r.ordered).1
 
 -- a station number is below 32
-pub ready_low : (n : ℕ) (w : Work) → Ready n w → All (Inside 32) w.table
+pub ready_low : (n : ℕ) (w : Work) → Ready n w → AllByRecursion (Inside 32) w.table
 ready_low n w r = All-weaker (Inside n) (Inside 32) (λ x h. (h.0, omega (arith, h.1, r.stations))) w.table (ready_inside n w r)
 
-degree_below : (t : List Route) (n s : ℕ) → All (Inside n) t → 0 < degree t s → s < n
+degree_below : (t : List Route) (n s : ℕ) → AllByRecursion (Inside n) t → 0 < degree t s → s < n
 degree_below [] n s a h = absurd (omega arith)
 degree_below (r ∷ rs) n s a h = let i = degree_below rs n s a.1 in let j = a.0 in grind (arith, nat_tests)
 

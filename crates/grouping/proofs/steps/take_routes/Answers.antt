@@ -1,6 +1,6 @@
 use Rattle.std.proofs.Common.{◌≡◌, ◌<◌, Bool, false, ◌&&◌, length, get_or, sym, ap, ◌∙◌, subst, arith, rules}
 use lib.Seq.{set-get_or}
-use Rattle.std.specs.List.{AllByRecursion as All}
+use Rattle.std.specs.List.{AllByRecursion}
 use Rattle.std.proofs.lemmas.Bool.Decides.{nat_tests}
 use Rattle.std.proofs.ByRecursion.{All-get_or, All-set}
 use Rattle.std.proofs.lemmas.List.{take_all, drop_all}
@@ -43,7 +43,7 @@ loop-r-preserved c =
       | then-r+then-fits w ↦ (
         w.routes-is ∙ taken_turn c.args.k g s t i c.loop-r-test.true c.loop-r.auto.routes c.loop-r.invariant.0 (eq-eqb _ _ w.if-r.true) (sym w.fits.ensures ∙ w.if-fits.true),
         (λ x b. ap (λ d. get_or d x 0) w.degrees-is ∙ (count_out t i x g _ _ l c.requires.number (eq-eqb _ _ w.if-r.true) (c.loop-r.invariant.1 x b) (w.one_less.ensures x) ∙ ap (λ y. degree y x) (sym w.routes-is))),
-        subst (All (Inside 32)) (sym w.routes-is) (All-set (Inside 32) t i (in_group g r) h c.loop-r.invariant.2),
+        subst (AllByRecursion (Inside 32)) (sym w.routes-is) (All-set (Inside 32) t i (in_group g r) h c.loop-r.invariant.2),
       )
       | else-r w ↦
           elim w.else-r.branch [
@@ -51,13 +51,13 @@ loop-r-preserved c =
                 (let e : c.if-r.routes ≡ t = w.routes-is ∙ (v.routes-is ∙ set-get_or t i no_route) in (
                   e ∙ turn (passed_right (remaining r) (fits c.args.k r) (sym v.fits.ensures ∙ v.if-fits.false)),
                   (λ x b. ap (λ d. get_or d x 0) w.degrees-is ∙ (c.loop-r.invariant.1 x b ∙ ap (λ y. degree y x) (sym e))),
-                  subst (All (Inside 32)) (sym e) c.loop-r.invariant.2,
+                  subst (AllByRecursion (Inside 32)) (sym e) c.loop-r.invariant.2,
                 ))
             | else-r-via-else-r v ↦
                 (let e : c.if-r.routes ≡ t = w.routes-is ∙ (v.routes-is ∙ set-get_or t i no_route) in (
                   e ∙ turn (passed_left (remaining r) (fits c.args.k r) (ne_eqb _ _ v.if-r.false)),
                   (λ x b. ap (λ d. get_or d x 0) w.degrees-is ∙ (c.loop-r.invariant.1 x b ∙ ap (λ y. degree y x) (sym e))),
-                  subst (All (Inside 32)) (sym e) c.loop-r.invariant.2,
+                  subst (AllByRecursion (Inside 32)) (sym e) c.loop-r.invariant.2,
                 ))
           ]
     ]
