@@ -1,12 +1,13 @@
+// Reads a day file from standard input, and prints its sheet: a line for each handover, then one for each question.
 #![tactic(auto)]
 
-// Reads a day file from standard input, and prints its sheet: a line for each handover, then one for each question.
 ghost use Rattle.std.specs.Prelude.{◌≤◌, length, IfOk};
 
 use dayfile::refusal::FileRefusal;
 use sheet::room::SheetRoom;
 use std::io;
 use std::io::{Read, Write};
+use std::process::ExitCode;
 
 // One more than the longest file, so that a longer one is seen to be too long without being kept.
 const MOST: usize = 8193;
@@ -48,10 +49,13 @@ fn run(rt: &HostRuntime) -> anyhow::Result<()> {
     Ok(())
 }
 
-fn main(rt: HostRuntime) -> anyhow::Result<()> {
-    let done = run(&rt);
-    if let Err(e) = &done {
-        let _ = eprintln!(rt; "daysheet: {e}");
+// The one line of an error names the program, so main answers the status, and not the error for the runtime to print.
+fn main(rt: HostRuntime) -> ExitCode {
+    match run(&rt) {
+        Ok(()) => ExitCode::SUCCESS,
+        Err(e) => {
+            let _ = eprintln!(rt; "daysheet: {e}");
+            ExitCode::FAILURE
+        }
     }
-    done
 }

@@ -1,6 +1,6 @@
+// Reads a day file from standard input, and prints its floor: stations, counts, and each group with its routes.
 #![tactic(auto)]
 
-// Reads a day file from standard input, and prints its floor: stations, counts, and each group with its routes.
 ghost use Rattle.std.specs.Prelude.{◌≤◌, length, IfOk};
 
 use dayfile::refusal::FileRefusal;
@@ -8,6 +8,7 @@ use floortext::room::FloorRoom;
 use refusals::Refusal;
 use std::io;
 use std::io::{Read, Write};
+use std::process::ExitCode;
 
 // One more than the longest file, so that a longer one is seen to be too long without being kept.
 const MOST: usize = 8193;
@@ -71,10 +72,13 @@ fn run(rt: &HostRuntime) -> anyhow::Result<()> {
     Ok(())
 }
 
-fn main(rt: HostRuntime) -> anyhow::Result<()> {
-    let done = run(&rt);
-    if let Err(e) = &done {
-        let _ = eprintln!(rt; "floorplan: {e}");
+// The one line of an error names the program, so main answers the status, and not the error for the runtime to print.
+fn main(rt: HostRuntime) -> ExitCode {
+    match run(&rt) {
+        Ok(()) => ExitCode::SUCCESS,
+        Err(e) => {
+            let _ = eprintln!(rt; "floorplan: {e}");
+            ExitCode::FAILURE
+        }
     }
-    done
 }

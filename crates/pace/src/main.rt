@@ -1,7 +1,7 @@
-#![tactic(auto)]
-
 // What a relation and a settlement cost: bench/run counts the instructions of this program, and of plain Rust that does
 // the same, for few and for many of each. Arguments: stations, handovers (at most 1,000), questions.
+#![tactic(auto)]
+
 use book::floor::Floor;
 use book::room::BookRoom;
 use order::kinds::Relation;

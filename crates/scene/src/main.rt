@@ -1,6 +1,6 @@
+// A scene on the floor of a shop: a pile of plans, offers that wait, a withdrawal, and a refusal of each kind.
 #![tactic(auto)]
 
-// A scene on the floor of a shop: a pile of plans, offers that wait, a withdrawal, and a refusal of each kind.
 use anyhow::anyhow;
 use book::floor::Floor;
 use book::offer::Offer;
