@@ -1,15 +1,18 @@
-# `make run` prints the sheet of the sample day; `make test` is the gate; `make bench` compares instructions with plain Rust.
-.PHONY: run test bench
+# `make run` prints the sheet of the sample day; `make test` is the gate; `make archive` builds what C programs link;
+# `make bench` compares instructions with plain Rust.
+.PHONY: run test archive bench
 
 run:
-	@mkdir -p target
-	@rt check daysheet > target/make-run.log 2>&1 || { tail -n 30 target/make-run.log; exit 1; }
+	@tests/programs daysheet
 	@target/bin/daysheet < examples/sample.day
 
 test:
 	@.ci/run
 
-bench:
+archive:
 	@mkdir -p target
-	@rt check floorplan daysheet pace > target/make-bench.log 2>&1 || { tail -n 30 target/make-bench.log; exit 1; }
+	@tests/archive > target/make-archive.log 2>&1 || { tail -n 30 target/make-archive.log; exit 1; }
+
+bench:
+	@tests/programs floorplan daysheet pace
 	@bench/run

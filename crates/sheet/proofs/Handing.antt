@@ -11,7 +11,7 @@ use Rattle.book.specs.declared.floor.Floor.{Floor}
 use Rattle.book.specs.declared.offer.Offer.{Offer}
 use Rattle.book.specs.Shown.{shown}
 use Rattle.book.specs.Calls.{Accepted, Refused, Offered, Settled, settling}
-use Rattle.book.specs.History.{Goes_on}
+use Rattle.book.specs.History.{GoesOn}
 use Rattle.refusals.proofs.Numbers.{some_number}
 use Rattle.lines.specs.Line.{handover_line, refused_handover_line}
 use Rattle.lines.proofs.Bounds.{handover_le, refused_handover_le}
@@ -24,7 +24,7 @@ use Rattle.sheet.proofs.Offers.{shows, settles, handed_refused, handed_settled, 
 
 -- a refused handover
 pub put_refused : (f f' : Floor GroupPlan) (g t : ℕ) (e : Refusal) (out out' : Page)
-    → Refused meaning f (offer g t) e f' → Goes_on meaning f (offer g t) f'
+    → Refused meaning f (offer g t) e f' → GoesOn meaning f (offer g t) f'
     → Added out (refused_handover_line g t (number e)) out' → g < 2 ^ 8 → t < 2 ^ 8
     → HandoverPut f (g, t) out f' out'
 put_refused f f' g t e out out' r on a gh th = record {
@@ -52,8 +52,8 @@ settle_passes f one two g t o e a is r =
 
 -- a handover that is offered and settled: its line has d counts, one for each dial
 module _ {f one two : Floor GroupPlan} {g t n : ℕ} {o : Offer} (d : ℕ) (counts : List ℕ)
-    (offered : Offered meaning f g t (Ok o) one) (on : Goes_on meaning f (offer g t) one)
-    (settles : Settled meaning one o (Ok n) two) (on' : Goes_on meaning one (settling o) two)
+    (offered : Offered meaning f g t (Ok o) one) (on : GoesOn meaning f (offer g t) one)
+    (settles : Settled meaning one o (Ok n) two) (on' : GoesOn meaning one (settling o) two)
     (counted : CountsIn two n counts) (dials : d ≡ (floor_meaning f).dials)
     (comes : Comes f) (nh : n < 2 ^ 16) (gh : g < 2 ^ 8) (th : t < 2 ^ 8) where
   plan : two.plan ≡ f.plan
