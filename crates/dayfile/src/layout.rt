@@ -1,4 +1,4 @@
-ghost use Rattle.std.specs.Prelude.{◌≡◌, ℕ, ◌+◌, ◌*◌, ◌<◌, ◌≤◌, length, IfOk};
+ghost use Rattle.std.specs.Prelude.{◌≡◌, ◌+◌, ◌*◌, ◌<◌, ◌≤◌, length, IfOk};
 ghost use Rattle.dayfile.specs.Layout.{Holds, Reads, layout_verdict, pair_verdict, word};
 ghost use Rattle.dayfile.specs.Verdict.{verdict_of};
 

@@ -1,4 +1,4 @@
-ghost use Rattle.std.specs.Prelude.{◌≡◌, ◌+◌, ◌*◌, ◌<◌, ◌≤◌, length, take};
+ghost use Rattle.std.specs.Prelude.{◌≡◌, ◌+◌, ◌*◌, ◌<◌, length, take};
 ghost use Rattle.dayfile.specs.Layout.{Reads};
 ghost use Rattle.dayfile.specs.Tables.{group_at, group_byte, groups_of, is_group_record, route_at, routes_of};
 

@@ -1,5 +1,5 @@
 // The question of a pair, and the group plan as a plan.
-ghost use Rattle.std.specs.Prelude.{◌≡◌, ◌+◌, ◌-◌, ◌/◌, ◌<◌, ◌≤◌, true, length};
+ghost use Rattle.std.specs.Prelude.{◌≡◌, ◌+◌, ◌-◌, ◌/◌, ◌<◌, true};
 ghost use Rattle.routes.specs.Order.{ascending, ends};
 ghost use Rattle.regrouping.specs.Pairs.{from};
 ghost use Rattle.regrouping.specs.Table.{remains};

@@ -1,7 +1,7 @@
 //! A plan that this repository's own crates know nothing of, and a floor that runs on it.
 #![tactic(auto)]
 
-ghost use Rattle.std.specs.Prelude.{◌≡◌, ◌≤◌, min, true, ◌||◌};
+ghost use Rattle.std.specs.Prelude.{◌≡◌, ◌≤◌, min, ◌||◌};
 ghost use Rattle.guest.specs.Hub.{hub_meaning, spoke};
 ghost use Rattle.std.proofs.Common.{rules, arith};
 

@@ -1,5 +1,6 @@
 //! Theory alone: the three rules by which routes are grouped, and their laws. The group plan's
-//! regrouping call promises them, and the table of worked examples has three tables and their groups.
+//! regrouping call promises what the rules leave, the functions below what they take and what a pair
+//! has; and the table of worked examples has three tables and their groups.
 #![tactic(auto)]
 
 ghost use Rattle.std.specs.Prelude.{◌≡◌, ℕ, ◌≤◌, true, List, length};
