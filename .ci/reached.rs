@@ -1,6 +1,7 @@
 //! Lists the definitions of crates/*/specs that no contract reaches. A theorem counts only where a contract names it, so a
 //! definition that only proofs use belongs to the proofs: in specs/ a reader would take it for promised.
-//! A name counts as reached where it stands in a source, or in a definition that is reached.
+//! A name counts as reached where it stands in a clause, a ghost field or a ghost member of a source, or in a definition
+//! that is reached. The code and its comments do not count, nor does an import: functions and definitions share names.
 use std::collections::{HashMap, HashSet};
 use std::fs;
 use std::path::{Path, PathBuf};
@@ -35,16 +36,33 @@ fn defined(line: &str) -> Option<(&str, bool)> {
     (!name.is_empty() && !name.contains(|c: char| c.is_whitespace() || "(){}".contains(c))).then_some((name, false))
 }
 
+/// The clauses, ghost fields and ghost members of a source, with what they import under another name by its own.
+fn clauses(text: &str, found: &mut Vec<String>) {
+    let mut others: HashMap<&str, &str> = HashMap::new();
+    let mut depth = 0;
+    for line in text.lines() {
+        let code = line.split("//").next().unwrap_or("");
+        let start = code.trim_start();
+        if start.starts_with("ghost use ") {
+            let parts: Vec<&str> = words(code).collect();
+            others.extend(parts.windows(3).filter(|w| w[1] == "as").map(|w| (w[2], w[0])));
+        } else if depth > 0 || ["ghost ", "requires ", "ensures "].iter().any(|k| start.starts_with(k)) {
+            found.extend(words(code).map(|w| others.get(w).copied().unwrap_or(w).to_string()));
+            depth += code.matches('{').count() as i32 - code.matches('}').count() as i32;
+        }
+    }
+}
+
 fn main() {
     let crates: Vec<PathBuf> = fs::read_dir("crates").expect("crates/ is there").flatten().map(|e| e.path()).collect();
     let mut bodies: HashMap<String, String> = HashMap::new();
     let mut places: Vec<(String, PathBuf)> = Vec::new();
-    let mut sources = String::new();
+    let mut promised: Vec<String> = Vec::new();
     for dir in &crates {
         let mut found = Vec::new();
         files(&dir.join("src"), "rt", &mut found);
         for path in found {
-            sources.push_str(&fs::read_to_string(&path).expect("a source is text"));
+            clauses(&fs::read_to_string(&path).expect("a source is text"), &mut promised);
         }
         let mut found = Vec::new();
         files(&dir.join("specs"), "antt", &mut found);
@@ -71,7 +89,7 @@ fn main() {
         }
     }
     let mut reached: HashSet<&str> = HashSet::new();
-    let mut todo: Vec<&str> = words(&sources).collect();
+    let mut todo: Vec<&str> = promised.iter().map(String::as_str).collect();
     while let Some(name) = todo.pop() {
         if let Some((name, body)) = bodies.get_key_value(name) {
             if reached.insert(name) {
