@@ -8,6 +8,7 @@ use Rattle.plans.specs.Meaning.{Meaning, Entry, has}
 use Rattle.order.specs.Plain.{Call}
 use Rattle.book.specs.declared.offer.Offer.{Offer}
 use Rattle.book.specs.declared.floor.Floor.{Floor}
+use Rattle.book.specs.Ends.{pair}
 use Rattle.book.specs.Shown.{shown, settled_in, row_count}
 use Rattle.book.specs.Calls.{Opened, settling, Accepted, Refused, StampsStay, StampsGrow, Offered, Settled, Withdrawn, StampRead}
 use Rattle.book.proofs.Calling.{settled_grows}
@@ -66,7 +67,7 @@ module _ {X : Type 0} (meaning : X → Meaning) where
 
   one_settled : (f f₁ f₂ : Floor X) (o : Offer) (r₁ r₂ : Result ℕ (Refusal × Offer)) → Settled meaning f o r₁ f₁ → Settled meaning f o r₂ f₂ → SameOutcome meaning r₁ f₁ r₂ f₂
   one_settled f f₁ f₂ o (Ok n) (Ok n') a b =
-      record { reply = ap Ok (a.0 ∙ sym b.0); floor = same_grows f f₁ f₂ (settling o) (o.giver, o.taker) (settled_grows meaning o a.1) a.1 a.2 b.1 b.2 }
+      record { reply = ap Ok (a.0 ∙ sym b.0); floor = same_grows f f₁ f₂ (settling o) (pair o.ends) (settled_grows meaning o a.1) a.1 a.2 b.1 b.2 }
   one_settled f f₁ f₂ o (Ok n) (Err e) a b = absurd (not_both f f₁ f₂ _ e.0 a.1 b.1)
   one_settled f f₁ f₂ o (Err e) (Ok n) a b = absurd (not_both f f₂ f₁ _ e.0 b.1 a.1)
   one_settled f f₁ f₂ o (Err e) (Err e') a b =

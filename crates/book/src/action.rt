@@ -5,7 +5,7 @@ ghost use Rattle.book.specs.Action.{fits_state, acted};
 use order::kinds::Mark;
 
 // What is done with an offer.
-#[derive(Clone, Copy)]
+#[derive(Clone, Copy, PartialEq, Eq, Debug)]
 pub enum Action {
     Offer,
     Settle,
@@ -14,13 +14,14 @@ pub enum Action {
 
 // A station's end of an offer, with the station at the other end: the giver's, to the taker, or
 // the taker's, from the giver.
-#[derive(Clone, Copy)]
+#[derive(Clone, Copy, PartialEq, Eq, Debug)]
 pub enum Side {
     To(u8),
     From(u8),
 }
 
-// Changes the state in place where the action fits it, and says whether it did.
+// Changes the state in place where the action fits it, and says whether it did. The form is the
+// project's rule: one match on the state and the action together, which changes the state.
 pub(crate) fn act(state: &mut Mark, action: Action, side: Side) -> bool
     ensures told { result ≡ fits_state state.old action side }
     ensures state { state.new ≡ acted state.old action side }

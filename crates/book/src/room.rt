@@ -4,7 +4,7 @@ ghost use Rattle.book.specs.Stations.{blank};
 
 use crate::book::Book;
 use crate::kinds::Row;
-use crate::stations::fresh;
+use crate::stations::Stations;
 use std::alloc::{AllocError, Global};
 
 // Room for the 1,000 rows of a book.
@@ -27,12 +27,12 @@ impl BookRoom {
     // The book of a new floor.
     pub(crate) fn open(self) -> Book
         ensures rows { result.rows.items ≡ [] }
-        ensures stations { result.stations ≡ replicate 32 blank }
+        ensures stations { result.stations.list ≡ replicate 32 blank }
     {
         let BookRoom { rows } = self;
         Book {
             rows,
-            stations: fresh(),
+            stations: Stations::new(),
             pending: 0,
         }
     }

@@ -1,5 +1,5 @@
 -- The check of a day file: the first check that fails, in order.
-use Rattle.std.specs.Prelude.{◌≡◌, ℕ, ◌<◌, cond, List, length, is_ok, None, Decides, Option, Result, ◌==◌, nat_eq, slice_index_or}
+use Rattle.std.specs.Prelude.{◌≡◌, ℕ, ◌<◌, Bool, cond, List, length, is_ok, is_none, None, Decides, Option, Result, ◌==◌, slice_index_or}
 use Rattle.refusals.specs.declared.Refusal.TheVariants.{RouteOrder, GroupRecord, RouteGroup, GroupIncomplete}
 use Rattle.routes.specs.declared.route.Route.{Route}
 use Rattle.routes.specs.declared.route.Group.{Group}
@@ -20,9 +20,13 @@ order_verdict bs = refuse_at RouteOrder (word bs 2) 3 (first_unordered (station_
 unfoldable pub record_verdict : List ℕ → Option FileRefusal
 record_verdict bs = refuse_at GroupRecord (word bs 6) 4 (first_no_group bs)
 
--- the first route whose group byte is not 255
+-- the route at place i names no group
+abbrev pub groupless_at : List Route → ℕ → Bool
+groupless_at t i = is_none (slice_index_or t i no_route).group
+
+-- the first route that names a group
 unfoldable pub first_grouped : List Route → Option ℕ
-first_grouped t = first_failing (λ i. nat_eq (slice_index_or t i no_route).group 255) (length t)
+first_grouped t = first_failing (groupless_at t) (length t)
 
 -- the first route that does not fit the groups: with none given, one that names a group, else one whose group is not there or has not its shape
 unfoldable pub first_unfit : List Route → List Group → Option ℕ

@@ -2,6 +2,7 @@
 use Rattle.std.specs.Prelude.{◌≡◌, ℕ, ◌+◌, ◌*◌, ◌/◌, ◌%◌, ◌≤◌, not, ◌||◌, List, length, Option, ◌==◌, nat_lt, slice_index}
 use Rattle.refusals.specs.declared.Refusal.TheVariants.{FileLength, SectionOffset, SectionLength, Limit}
 use Rattle.dayfile.specs.declared.layout.Section.{Section}
+use Rattle.dayfile.specs.declared.section.Span.{Span}
 use Rattle.dayfile.specs.declared.layout.Layout.{Layout}
 use Rattle.dayfile.specs.declared.refusal.FileRefusal.{FileRefusal}
 use Rattle.dayfile.specs.Verdict.{refuse_if, and_then}
@@ -40,6 +41,10 @@ layout_verdict bs =
 abbrev pub Holds : List ℕ → ℕ → ℕ → ℕ → Section → Type 0
 Holds bs p size most s =
     (s.start ≡ word bs p) × (s.count ≡ word bs (p + 2) / size) × (s.count * size ≡ word bs (p + 2)) × (s.start + s.count * size ≤ length bs) × (s.count ≤ most)
+
+-- the same of a section with the size of its records
+abbrev pub Spans : List ℕ → ℕ → ℕ → ℕ → Span → Type 0
+Spans bs p size most s = Holds bs p size most (record { start = s.start; count = s.count }) × (s.size ≡ size)
 
 -- l is what the first 18 bytes say
 abbrev pub Reads : List ℕ → Layout → Type 0

@@ -1,10 +1,12 @@
 -- The records of a day file: which part of the file each one is.
-use Rattle.std.specs.Prelude.{ℕ, ◌+◌, ◌*◌, ◌/◌, cond, List, length, take, drop, Some, None, Option, nat_lt}
+use Rattle.std.specs.Prelude.{ℕ, ◌+◌, ◌-◌, ◌*◌, ◌/◌, cond, List, map, length, take, drop, Some, None, Option, nat_lt}
 use Rattle.std.specs.Borrow.{Bor}
+use Rattle.std.specs.List.{range_with_len}
 use Rattle.dayfile.specs.declared.records.Kind.{Kind}
 use Rattle.dayfile.specs.declared.records.Kind.TheVariants.{Routes, Groups, Handovers, Questions}
 use Rattle.dayfile.specs.declared.records.Record.{Record}
 use Rattle.dayfile.specs.declared.records.Record.TheVariants.{Route, Group, Handover, Question}
+use Rattle.dayfile.specs.declared.records.Records.{Records}
 use Rattle.dayfile.specs.declared.refusal.FileRefusal.{FileRefusal}
 use Rattle.dayfile.specs.Layout.{word}
 use Rattle.dayfile.specs.Check.{file_verdict}
@@ -22,6 +24,13 @@ record_size Routes = 3
 record_size Groups = 4
 record_size Handovers = 2
 record_size Questions = 4
+
+-- how many records of the kind a file can have at most
+abbrev pub most_records : Kind → ℕ
+most_records Routes = 496
+most_records Groups = 32
+most_records Handovers = 1000
+most_records Questions = 1000
 
 -- where the kind's pair of offset and length stands
 abbrev pub pair_place : Kind → ℕ
@@ -47,11 +56,6 @@ part_of b = (b.ref_ptr, length b.now, b.now)
 abbrev pub part_at : Bor (List ℕ) → ℕ → ℕ → Part
 part_at f start size = ((f.ref_ptr.0, start + f.ref_ptr.1), size, take size (drop start f.now))
 
--- the part of a borrow that may be there
-abbrev pub part_if : Option (Bor (List ℕ)) → Option Part
-part_if None = None
-part_if (Some b) = Some (part_of b)
-
 -- a record's kind, by its number, and its part of the file
 abbrev pub told_record : Record → ℕ × Part
 told_record (Route b) = (0, part_of b)
@@ -69,8 +73,23 @@ abbrev pub if_accepted : {X : Type 0} → Option FileRefusal → Option X → Op
 if_accepted None x = x
 if_accepted (Some e) x = None
 
+-- record i of the kind in a file: the kind's number, and the part of the file that it is
+abbrev pub file_record : Bor (List ℕ) → Kind → ℕ → ℕ × Part
+file_record f k i = (kind_number k, part_at f (record_place f.now k i) (record_size k))
+
 -- record i of the kind: none past the last, and none of a refused file
 abbrev pub record_at : Bor (List ℕ) → Kind → ℕ → Option (ℕ × Part)
-record_at f k i =
-    if_accepted (file_verdict f.now)
-    (cond (nat_lt i (record_count f.now k)) (Some (kind_number k, part_at f (record_place f.now k i) (record_size k))) None)
+record_at f k i = if_accepted (file_verdict f.now) (cond (nat_lt i (record_count f.now k)) (Some (file_record f k i)) None)
+
+-- how many records of the kind are left from i on: none of a refused file
+abbrev pub count_from : Option FileRefusal → List ℕ → Kind → ℕ → ℕ
+count_from None bs k i = record_count bs k - i
+count_from (Some e) bs k i = 0
+
+-- record i of the kind and those after it, in order, to the last; none of a refused file
+unfoldable pub records_from : Bor (List ℕ) → Kind → ℕ → List (ℕ × Part)
+records_from f k i = map (file_record f k) (range_with_len i (count_from (file_verdict f.now) f.now k i))
+
+-- the records that an iterator has left
+abbrev pub records_left : Records → List (ℕ × Part)
+records_left s = records_from s.file.bytes s.kind s.index

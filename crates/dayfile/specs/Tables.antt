@@ -1,11 +1,15 @@
 -- The tables of a day file: its routes and groups, out of their records.
-use Rattle.std.specs.Prelude.{ℕ, ◌+◌, ◌*◌, ◌/◌, Bool, cond, ◌&&◌, ◌||◌, List, map, Option, ◌==◌, nat_lt, slice_index}
+use Rattle.std.specs.Prelude.{◌≡◌, ◌<◌, length, ℕ, ◌+◌, ◌*◌, ◌/◌, Bool, cond, ◌&&◌, ◌||◌, List, map, Some, None, Option, ◌==◌, nat_lt, slice_index}
 use Rattle.std.specs.List.{range_with_len}
 use Rattle.routes.specs.declared.route.Route.{Route}
 use Rattle.routes.specs.declared.route.Group.{Group}
 use Rattle.routes.specs.declared.route.Group.TheVariants.{Star, Triangle}
 use Rattle.routes.specs.Tests.{first_failing}
 use Rattle.dayfile.specs.Layout.{word, station_count}
+
+-- the record r stands in the file bs from place p on
+abbrev pub Stands : List ℕ → List ℕ → ℕ → Type 0
+Stands r bs p = (k : ℕ) → k < length r → slice_index r k ≡ slice_index bs (p + k)
 
 -- how many routes the file has
 abbrev pub route_count : List ℕ → ℕ
@@ -15,10 +19,14 @@ route_count bs = word bs 4 / 3
 abbrev pub route_place : List ℕ → ℕ → ℕ
 route_place bs i = word bs 2 + 3 * i
 
+-- the group that a route's third byte names: 255 stands for none
+abbrev pub group_named : ℕ → Option ℕ
+group_named b = cond (b == 255) None (Some b)
+
 -- route i: its lower end, its higher end, its group
 unfoldable pub route_at : List ℕ → ℕ → Route
 route_at bs i =
-    record { low = slice_index bs (route_place bs i); high = slice_index bs (route_place bs i + 1); group = slice_index bs (route_place bs i + 2) }
+    record { low = slice_index bs (route_place bs i); high = slice_index bs (route_place bs i + 1); group = group_named (slice_index bs (route_place bs i + 2)) }
 
 -- the routes of the file, in their order
 unfoldable pub routes_of : List ℕ → List Route

@@ -1,5 +1,5 @@
 -- Verdicts on a day file: the first check that fails, with its place, or none.
-use Rattle.std.specs.Prelude.{◌≡◌, ℕ, ◌+◌, ◌*◌, ◌/◌, ◌%◌, ◌<◌, ◌≤◌, Bool, cond, Some, None, Ok, Err, Option, Result}
+use Rattle.std.specs.Prelude.{◌≡◌, ℕ, ◌+◌, ◌*◌, ◌/◌, ◌%◌, ◌<◌, ◌≤◌, Bool, cond, Some, None, Ok, Err, Option, Result, List, ◌++◌, codes, decimal}
 use Rattle.refusals.specs.declared.Refusal.{Refusal}
 use Rattle.refusals.specs.Number.{number}
 use Rattle.dayfile.specs.declared.refusal.FileRefusal.{FileRefusal}
@@ -7,6 +7,10 @@ use Rattle.dayfile.specs.declared.refusal.FileRefusal.{FileRefusal}
 -- a file refusal's number and place
 abbrev pub told : FileRefusal → ℕ × ℕ
 told e = (number e.refusal, e.place)
+
+-- a file refusal in words: "refused", its number, "at", its place, the two in decimals
+abbrev pub refusal_text : FileRefusal → List ℕ
+refusal_text e = codes "refused " ++ decimal (told e).0 ++ codes " at " ++ decimal (told e).1
 
 -- the refusal at the place of a byte
 abbrev pub refused : Refusal → ℕ → FileRefusal
@@ -25,11 +29,6 @@ refuse_at why start size (Some i) = Some (refused why (start + size * i))
 abbrev pub and_then : Option FileRefusal → Option FileRefusal → Option FileRefusal
 and_then None later = later
 and_then (Some e) later = Some e
-
--- what was found, if anything, is below n
-abbrev pub Below : ℕ → Option ℕ → Type 0
-Below n None = Unit {0}
-Below n (Some i) = i < n
 
 -- the verdict that an answer stands for
 abbrev pub verdict_of : {X : Type 0} → Result X FileRefusal → Option FileRefusal

@@ -1,19 +1,21 @@
+// A day file that has been checked once, when it was opened.
 ghost use Rattle.dayfile.specs.Check.{file_verdict};
 ghost use Rattle.dayfile.specs.Layout.{Reads};
-ghost use Rattle.std.specs.Prelude.{◌≡◌, None};
+ghost use Rattle.dayfile.specs.Verdict.{verdict_of};
+ghost use Rattle.std.specs.Prelude.{◌≡◌, IfOk};
+ghost use Rattle.std.proofs.Props.{props};
 
 use super::check::check_file;
-use super::layout::Layout;
+use super::layout::{Layout, Sections};
 use super::refusal::FileRefusal;
 
-// The bytes of a file, and the first check that fails; its layout where none does.
+// The bytes of a file, and its layout, or the first check that fails.
 #[derive(Clone, Copy)]
 pub struct DayFile<'a> {
     pub(crate) bytes: &'a [u8],
-    pub(crate) layout: Layout,
-    pub(crate) refusal: Option<FileRefusal>,
-    ghost verdict: { refusal ≡ file_verdict bytes.now },
-    ghost reads: { (file_verdict bytes.now ≡ None → Reads bytes.now layout) },
+    pub(crate) layout: Result<Layout, FileRefusal>,
+    ghost verdict: { verdict_of layout ≡ file_verdict bytes.now },
+    ghost reads: { IfOk layout (Reads bytes.now) } by { Prim.hlevel props },
 }
 
 impl<'a> DayFile<'a> {
@@ -21,17 +23,9 @@ impl<'a> DayFile<'a> {
     pub fn open(bytes: &'a [u8]) -> DayFile<'a>
         ensures { result.bytes ≡ bytes.entry }
     {
-        match check_file(bytes) {
-            Ok(layout) => DayFile {
-                bytes,
-                layout,
-                refusal: None,
-            },
-            Err(e) => DayFile {
-                bytes,
-                layout: Layout::EMPTY,
-                refusal: Some(e),
-            },
+        DayFile {
+            bytes,
+            layout: check_file(bytes),
         }
     }
 
@@ -39,6 +33,18 @@ impl<'a> DayFile<'a> {
     pub fn refusal(&self) -> Option<FileRefusal>
         ensures { result ≡ file_verdict self.now.bytes.now }
     {
-        self.refusal
+        self.layout.err()
+    }
+
+    // The sections of a file without a refusal.
+    pub(crate) fn sections(&self) -> Result<Sections<'a>, FileRefusal>
+        ensures verdict { verdict_of result ≡ file_verdict self.now.bytes.now }
+        ensures bytes { IfOk result (λ s. s.bytes ≡ self.now.bytes) }
+    {
+        let layout = self.layout?;
+        Ok(Sections {
+            bytes: self.bytes,
+            layout,
+        })
     }
 }

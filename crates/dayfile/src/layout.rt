@@ -1,9 +1,22 @@
+// The layout of a day file: how many stations, and where its four sections are.
 ghost use Rattle.std.specs.Prelude.{◌≡◌, ◌+◌, ◌*◌, ◌<◌, ◌≤◌, length, IfOk};
-ghost use Rattle.dayfile.specs.Layout.{Holds, Reads, layout_verdict, pair_verdict, word};
+ghost use Rattle.dayfile.specs.Layout.{Reads, Spans, layout_verdict, pair_verdict, word};
+ghost use Rattle.dayfile.specs.Records.{most_records, pair_place, record_size};
 ghost use Rattle.dayfile.specs.Verdict.{verdict_of};
 
-use super::refusal::FileRefusal;
+use super::records::Kind;
+use super::refusal::{FileRefusal, refuse_if};
+use super::section::Span;
 use refusals::Refusal;
+
+// The bytes ahead of the sections: the number of stations, a byte that is 0, and the four pairs of offset and length.
+const HEAD: usize = 18;
+
+// The most bytes that a file can have.
+pub const MOST_BYTES: usize = 8192;
+
+// The most stations that a file can have.
+const MOST_STATIONS: u8 = 32;
 
 // The most records that a file can have of each kind.
 pub const MOST_ROUTES: usize = 496;
@@ -15,14 +28,14 @@ pub const MOST_HANDOVERS: usize = 1000;
 pub const MOST_QUESTIONS: usize = 1000;
 
 // A section of the file: the place of its first record, and how many it has.
-#[derive(Clone, Copy)]
+#[derive(Clone, Copy, PartialEq, Eq, Debug)]
 pub struct Section {
     pub start: usize,
     pub count: usize,
 }
 
 // What the first 18 bytes of a file say.
-#[derive(Clone, Copy)]
+#[derive(Clone, Copy, PartialEq, Eq, Debug)]
 pub struct Layout {
     pub stations: u8,
     pub routes: Section,
@@ -31,15 +44,50 @@ pub struct Layout {
     pub questions: Section,
 }
 
-impl Layout {
-    // A layout without a station or a record.
-    pub const EMPTY: Layout = Layout {
-        stations: 0,
-        routes: Section { start: 0, count: 0 },
-        groups: Section { start: 0, count: 0 },
-        handovers: Section { start: 0, count: 0 },
-        questions: Section { start: 0, count: 0 },
-    };
+// The bytes of a file, with the layout that they have.
+#[derive(Clone, Copy)]
+pub(crate) struct Sections<'a> {
+    pub(crate) bytes: &'a [u8],
+    pub(crate) layout: Layout,
+    ghost reads: { Reads bytes.now layout },
+}
+
+impl Kind {
+    // The place of the kind's pair of offset and length.
+    fn pair(self) -> u16
+        ensures { result ≡ pair_place self }
+    {
+        match self {
+            Kind::Routes => 2,
+            Kind::Groups => 6,
+            Kind::Handovers => 10,
+            Kind::Questions => 14,
+        }
+    }
+
+    // How many bytes a record of the kind has.
+    pub(crate) fn size(self) -> usize
+        ensures { result ≡ record_size self }
+    {
+        match self {
+            Kind::Routes => 3,
+            Kind::Groups => 4,
+            Kind::Handovers => 2,
+            Kind::Questions => 4,
+        }
+    }
+
+    // The most records of the kind that a file can have.
+    fn most(self) -> usize
+        ensures { result ≡ most_records self }
+    {
+        match self {
+            Kind::Routes => MOST_ROUTES,
+            Kind::Groups => MOST_GROUPS,
+            Kind::Handovers => MOST_HANDOVERS,
+            Kind::Questions => MOST_QUESTIONS,
+        }
+    }
 }
 
 // Two bytes from place `at`, low byte first.
@@ -50,89 +98,56 @@ fn read_word(bytes: &[u8], at: usize) -> u16
     u16::from_le_bytes([bytes[at], bytes[at + 1]])
 }
 
-// The section of the pair at place `at`, or what is wrong with the pair: it may start at `from`, and has at most `most` records of `size` bytes.
-fn check_pair(
-    bytes: &[u8],
-    at: u16,
-    from: usize,
-    size: usize,
-    most: usize,
-) -> Result<Section, FileRefusal>
-    requires { (at + 3 < length bytes.now) × ((0 < size) × ((size < 5) × (most ≤ 1000))) }
-    ensures verdict { verdict_of result ≡ pair_verdict bytes.now at from size most }
-    ensures section { IfOk result (Holds bytes.now at size most) }
+// The section of a kind, or what is wrong with its pair; it may start at `from`.
+#[tactic(auto, using(crate::proofs::Sections::count_most), unfolding(crate::specs::Layout::pair_verdict))]
+fn check_pair(bytes: &[u8], kind: Kind, from: usize) -> Result<Span, FileRefusal>
+    requires { (18 ≤ length bytes.now) × (length bytes.now ≤ 8192) }
+    ensures verdict { verdict_of result ≡ pair_verdict bytes.now (pair_place kind) from (record_size kind) (most_records kind) }
+    ensures section { IfOk result (Spans bytes.now (pair_place kind) (record_size kind) (most_records kind)) }
 {
-    let start = read_word(bytes, at as usize) as usize;
-    let len = read_word(bytes, at as usize + 2) as usize;
-    if start < from || start + len > bytes.len() {
-        return Err(FileRefusal {
-            refusal: Refusal::SectionOffset,
-            place: at,
-        });
-    }
-    if len % size != 0 {
-        return Err(FileRefusal {
-            refusal: Refusal::SectionLength,
-            place: at,
-        });
-    }
-    if len > most * size {
-        return Err(FileRefusal {
-            refusal: Refusal::Limit,
-            place: at,
-        });
-    }
-    Ok(Section {
+    let (pair, size) = (kind.pair(), kind.size());
+    let start = usize::from(read_word(bytes, usize::from(pair)));
+    let len = usize::from(read_word(bytes, usize::from(pair) + 2));
+    refuse_if(
+        start < from || start + len > bytes.len(),
+        Refusal::SectionOffset,
+        pair,
+    )?;
+    refuse_if(len % size != 0, Refusal::SectionLength, pair)?;
+    refuse_if(len > kind.most() * size, Refusal::Limit, pair)?;
+    Ok(Span {
         start,
         count: len / size,
+        size,
     })
 }
 
-// The layout, or the first thing that is wrong with the length, bytes 0 and 1, and the pairs.
-pub(crate) fn check_layout(bytes: &[u8]) -> Result<Layout, FileRefusal>
+// The sections, or the first thing that is wrong with the length, bytes 0 and 1, and the pairs.
+#[tactic(auto, unfolding(crate::specs::Layout::layout_verdict))]
+pub(crate) fn check_layout<'a>(bytes: &'a [u8]) -> Result<Sections<'a>, FileRefusal>
     ensures verdict { verdict_of result ≡ layout_verdict bytes.now }
-    ensures layout { IfOk result (Reads bytes.now) }
+    ensures bytes { IfOk result (λ s. s.bytes ≡ bytes.entry) }
 {
-    if bytes.len() < 18 || bytes.len() > 8192 {
-        return Err(FileRefusal {
-            refusal: Refusal::FileLength,
-            place: 0,
-        });
-    }
+    refuse_if(
+        bytes.len() < HEAD || bytes.len() > MOST_BYTES,
+        Refusal::FileLength,
+        0,
+    )?;
     let stations = bytes[0];
-    if stations == 0 || stations > 32 {
-        return Err(FileRefusal {
-            refusal: Refusal::Limit,
-            place: 0,
-        });
-    }
-    if bytes[1] != 0 {
-        return Err(FileRefusal {
-            refusal: Refusal::Limit,
-            place: 1,
-        });
-    }
-    let routes = check_pair(bytes, 2, 18, 3, MOST_ROUTES)?;
-    let groups = check_pair(bytes, 6, routes.start + 3 * routes.count, 4, MOST_GROUPS)?;
-    let handovers = check_pair(
+    refuse_if(stations == 0 || stations > MOST_STATIONS, Refusal::Limit, 0)?;
+    refuse_if(bytes[1] != 0, Refusal::Limit, 1)?;
+    let routes = check_pair(bytes, Kind::Routes, HEAD)?;
+    let groups = check_pair(bytes, Kind::Groups, routes.end())?;
+    let handovers = check_pair(bytes, Kind::Handovers, groups.end())?;
+    let questions = check_pair(bytes, Kind::Questions, handovers.end())?;
+    Ok(Sections {
         bytes,
-        10,
-        groups.start + 4 * groups.count,
-        2,
-        MOST_HANDOVERS,
-    )?;
-    let questions = check_pair(
-        bytes,
-        14,
-        handovers.start + 2 * handovers.count,
-        4,
-        MOST_QUESTIONS,
-    )?;
-    Ok(Layout {
-        stations,
-        routes,
-        groups,
-        handovers,
-        questions,
+        layout: Layout {
+            stations,
+            routes: routes.section(),
+            groups: groups.section(),
+            handovers: handovers.section(),
+            questions: questions.section(),
+        },
     })
 }

@@ -7,4 +7,5 @@ pub mod layout;
 pub mod reading;
 pub mod records;
 pub mod refusal;
+pub mod section;
 mod tables;

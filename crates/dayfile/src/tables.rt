@@ -1,103 +1,99 @@
-ghost use Rattle.std.specs.Prelude.{◌≡◌, ◌+◌, ◌*◌, ◌<◌, length, take};
-ghost use Rattle.dayfile.specs.Layout.{Reads};
-ghost use Rattle.dayfile.specs.Tables.{group_at, group_byte, groups_of, is_group_record, route_at, routes_of};
+// The tables of a day file: its routes and groups, out of their records.
+ghost use Rattle.std.specs.Prelude.{◌≡◌, ℕ, ◌+◌, ◌*◌, ◌<◌, ◌≤◌, length, IfOk, Some, None, if◌then◌else◌};
+ghost use Rattle.dayfile.specs.Check.{record_verdict};
+ghost use Rattle.dayfile.specs.Records.{part_at, part_of};
+ghost use Rattle.dayfile.specs.Tables.{group_at, group_place, groups_of, is_group_record, route_at, route_place, routes_of, Stands};
+ghost use Rattle.std.specs.Slice.Iter.{chunks_exact_rest, chunks_exact_size};
+ghost use Rattle.dayfile.specs.Verdict.{verdict_of};
 
-use super::layout::{Layout, MOST_GROUPS, MOST_ROUTES};
+use super::layout::{MOST_GROUPS, MOST_ROUTES, Sections};
+use super::records::Kind;
+use super::refusal::FileRefusal;
+use super::section::Span;
+use arrayvec::ArrayVec;
+use refusals::Refusal;
 use routes::route::{Group, Route};
+use std::slice::ChunksExact;
 
-// The routes of a file, at the front of a table on the stack that has room for the most there can be.
-pub(crate) fn decode_routes(bytes: &[u8], layout: Layout) -> [Route; MOST_ROUTES]
-    requires { Reads bytes.now layout }
-    ensures room { length result ≡ 496 }
-    ensures front { take layout.routes.count result ≡ routes_of bytes.now }
-{
-    let mut table = blank_routes();
-    for i in 0..layout.routes.count {
-        table[i] = route_at(bytes, layout, i);
+// The byte of a route that names no group.
+const NO_GROUP: u8 = 255;
+
+impl<'a> Sections<'a> {
+    // The bytes of a record, by its place: Rattle's `nth`, as in `chunks_exact(..).nth(index)`, walks over
+    // all the records ahead of it.
+    pub(crate) fn record(&self, section: Span, index: usize) -> &'a [u8]
+        requires inside { section.start + section.count * section.size ≤ length self.now.bytes.now }
+        requires index { index < section.count }
+        ensures part { part_of result ≡ part_at self.now.bytes (section.start + section.size * index) section.size }
+    {
+        let start = section.place(index);
+        &self.bytes[start..start + section.size]
     }
-    table
-}
 
-// The groups of a file, at the front of a table.
-pub(crate) fn decode_groups(bytes: &[u8], layout: Layout) -> [Group; MOST_GROUPS]
-    requires { Reads bytes.now layout }
-    ensures room { length result ≡ 32 }
-    ensures front { take layout.groups.count result ≡ groups_of bytes.now }
-{
-    let mut table = blank_groups();
-    for g in 0..layout.groups.count {
-        table[g] = group_at(bytes, layout, g);
+    // The records of a section, one after the other.
+    fn records(&self, section: Span) -> ChunksExact<'a, u8>
+        requires inside { section.start + section.count * section.size ≤ length self.now.bytes.now }
+        requires size { 0 < section.size }
+        ensures rest { Stands (chunks_exact_rest result) self.now.bytes.now section.start }
+        ensures len { length (chunks_exact_rest result) ≡ section.count * section.size }
+        ensures size { chunks_exact_size result ≡ section.size }
+    {
+        self.bytes[section.start..section.end()].chunks_exact(section.size)
     }
-    table
-}
 
-// Whether the record of group `g` is a star's or a triangle's.
-pub(crate) fn is_group_record(bytes: &[u8], layout: Layout, g: usize) -> bool
-    requires { (Reads bytes.now layout) × (g < layout.groups.count) }
-    ensures { result ≡ is_group_record bytes.now g }
-{
-    let a = group_byte(bytes, layout, g, 1);
-    let b = group_byte(bytes, layout, g, 2);
-    let c = group_byte(bytes, layout, g, 3);
-    match group_byte(bytes, layout, g, 0) {
-        0 => a < layout.stations && b == 0 && c == 0,
-        1 => a < b && b < c && c < layout.stations,
-        _ => false,
+    // The routes of the file.
+    #[tactic(auto, using(crate::proofs::Stages::table_steps), unfolding(crate::specs::Tables::routes_of))]
+    pub(crate) fn routes(&self) -> ArrayVec<Route, MOST_ROUTES>
+        ensures { result.items ≡ routes_of self.now.bytes.now }
+    {
+        let mut routes = ArrayVec::new();
+        for record in self.records(self.span(Kind::Routes)) {
+            routes.push(self.route(record));
+        }
+        routes
     }
-}
 
-// Route `i`: its lower end, its higher end, its group.
-fn route_at(bytes: &[u8], layout: Layout, i: usize) -> Route
-    requires { (Reads bytes.now layout) × (i < layout.routes.count) }
-    ensures { result ≡ route_at bytes.now i }
-{
-    let at = layout.routes.start + 3 * i;
-    Route {
-        low: bytes[at],
-        high: bytes[at + 1],
-        group: bytes[at + 2],
+    // The groups of the file, or the refusal at the first record that is neither a star's nor a triangle's.
+    #[tactic(auto, using(crate::proofs::Stages::table_steps), unfolding(crate::specs::Tables::groups_of))]
+    pub(crate) fn groups(&self) -> Result<ArrayVec<Group, MOST_GROUPS>, FileRefusal>
+        ensures verdict { verdict_of result ≡ record_verdict self.now.bytes.now }
+        ensures groups { IfOk result (λ t. t.items ≡ groups_of self.now.bytes.now) }
+    {
+        let section = self.span(Kind::Groups);
+        let mut groups = ArrayVec::new();
+        for record in self.records(section) {
+            let group = self
+                .group(record)
+                .ok_or(section.refusal(Refusal::GroupRecord, groups.len()))?;
+            groups.push(group);
+        }
+        Ok(groups)
     }
-}
 
-// Group `g`: a triangle where its kind is 1, else a star.
-fn group_at(bytes: &[u8], layout: Layout, g: usize) -> Group
-    requires { (Reads bytes.now layout) × (g < layout.groups.count) }
-    ensures { result ≡ group_at bytes.now g }
-{
-    let a = group_byte(bytes, layout, g, 1);
-    if group_byte(bytes, layout, g, 0) == 1 {
-        Group::Triangle(
-            a,
-            group_byte(bytes, layout, g, 2),
-            group_byte(bytes, layout, g, 3),
-        )
-    } else {
-        Group::Star(a)
+    // The route of a record: its lower end, its higher end, its group.
+    #[tactic(auto, unfolding(crate::specs::Tables::route_at))]
+    fn route(&self, bytes: &[u8]) -> Route
+        requires { length bytes.now ≡ 3 }
+        ensures { (i : ℕ) → Stands bytes.now self.now.bytes.now (route_place self.now.bytes.now i) → result ≡ route_at self.now.bytes.now i }
+    {
+        Route {
+            low: bytes[0],
+            high: bytes[1],
+            group: (bytes[2] != NO_GROUP).then_some(bytes[2]),
+        }
     }
-}
 
-// Byte `k` of the record of group `g`.
-fn group_byte(bytes: &[u8], layout: Layout, g: usize, k: usize) -> u8
-    requires { (Reads bytes.now layout) × ((g < layout.groups.count) × (k < 4)) }
-    ensures { result ≡ group_byte bytes.now g k }
-{
-    bytes[layout.groups.start + 4 * g + k]
-}
-
-// A table to write routes into; a function of its own, so that its caller's proof has a length and not 496 elements.
-fn blank_routes() -> [Route; MOST_ROUTES]
-    ensures { length result ≡ 496 }
-{
-    [Route {
-        low: 0,
-        high: 0,
-        group: 0,
-    }; MOST_ROUTES]
-}
-
-// The same for groups.
-fn blank_groups() -> [Group; MOST_GROUPS]
-    ensures { length result ≡ 32 }
-{
-    [Group::Star(0); MOST_GROUPS]
+    // The group of a record, if it is a star's or a triangle's.
+    #[tactic(auto, unfolding(crate::specs::Tables::is_group_record, crate::specs::Tables::group_at, crate::specs::Tables::group_byte))]
+    fn group(&self, bytes: &[u8]) -> Option<Group>
+        requires { length bytes.now ≡ 4 }
+        ensures { (g : ℕ) → Stands bytes.now self.now.bytes.now (group_place self.now.bytes.now g) → result ≡ (if is_group_record self.now.bytes.now g then Some (group_at self.now.bytes.now g) else None) }
+    {
+        let stations = self.layout.stations;
+        match *bytes {
+            [0, centre, 0, 0] if centre < stations => Some(Group::Star(centre)),
+            [1, a, b, c] if a < b && b < c && c < stations => Some(Group::Triangle(a, b, c)),
+            _ => None,
+        }
+    }
 }

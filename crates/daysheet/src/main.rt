@@ -1,31 +1,14 @@
 // Reads a day file from standard input, and prints its sheet: a line for each handover, then one for each question.
 #![tactic(auto)]
 
-ghost use Rattle.std.specs.Prelude.{◌≤◌, length, IfOk};
-
+use dayfile::layout::MOST_BYTES;
 use dayfile::refusal::FileRefusal;
 use sheet::room::SheetRoom;
-use std::io;
 use std::io::{Read, Write};
 use std::process::ExitCode;
 
 // One more than the longest file, so that a longer one is seen to be too long without being kept.
-const MOST: usize = 8193;
-
-// Reads until the buffer is full or the input ends, and says how many bytes there are.
-fn fill(input: &mut impl Read, buf: &mut [u8]) -> io::Result<usize>
-    ensures { IfOk result (λ n. n ≤ length buf.new) }
-{
-    let mut len = 0;
-    while len < buf.len() {
-        let k = input.read(&mut buf[len..])?;
-        if k == 0 {
-            break;
-        }
-        len += k;
-    }
-    Ok(len)
-}
+const MOST: u64 = MOST_BYTES as u64 + 1;
 
 // Says on standard error why a file is refused.
 fn explain(rt: &HostRuntime, e: FileRefusal) {
@@ -39,9 +22,9 @@ fn explain(rt: &HostRuntime, e: FileRefusal) {
 
 fn run(rt: &HostRuntime) -> anyhow::Result<()> {
     let room = SheetRoom::new(rt.alloc())?;
-    let mut buf = [0u8; MOST];
-    let len = fill(&mut rt.stdin(), &mut buf)?;
-    let sheet = room.print(&buf[0..len]);
+    let mut bytes = Vec::new(rt.alloc());
+    rt.stdin().take(MOST).read_to_end(&mut bytes)?;
+    let sheet = room.print(&bytes);
     rt.stdout().write_all(sheet.text())?;
     if let Some(e) = sheet.refusal {
         explain(rt, e);
@@ -50,6 +33,7 @@ fn run(rt: &HostRuntime) -> anyhow::Result<()> {
 }
 
 // The one line of an error names the program, so main answers the status, and not the error for the runtime to print.
+// Both programs have these lines: a crate for them would be longer than they are.
 fn main(rt: HostRuntime) -> ExitCode {
     match run(&rt) {
         Ok(()) => ExitCode::SUCCESS,

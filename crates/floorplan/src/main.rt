@@ -1,34 +1,18 @@
 // Reads a day file from standard input, and prints its floor: stations, counts, and each group with its routes.
 #![tactic(auto)]
 
-ghost use Rattle.std.specs.Prelude.{◌≤◌, length, IfOk};
-
+use dayfile::layout::MOST_BYTES;
 use dayfile::refusal::FileRefusal;
 use floortext::room::FloorRoom;
 use refusals::Refusal;
-use std::io;
 use std::io::{Read, Write};
 use std::process::ExitCode;
 
 // One more than the longest file, so that a longer one is seen to be too long without being kept.
-const MOST: usize = 8193;
+const MOST: u64 = MOST_BYTES as u64 + 1;
 
-// Reads until the buffer is full or the input ends, and says how many bytes there are.
-fn fill(input: &mut impl Read, buf: &mut [u8]) -> io::Result<usize>
-    ensures { IfOk result (λ n. n ≤ length buf.new) }
-{
-    let mut len = 0;
-    while len < buf.len() {
-        let k = input.read(&mut buf[len..])?;
-        if k == 0 {
-            break;
-        }
-        len += k;
-    }
-    Ok(len)
-}
-
-// What is wrong with a refused file, and what to do.
+// What is wrong with a refused file, and what to do: the words that this program has always printed,
+// which are not those of `Refusal::advice`.
 fn advice(refusal: Refusal) -> &'static str {
     match refusal {
         Refusal::FileLength =>
@@ -53,18 +37,16 @@ fn advice(refusal: Refusal) -> &'static str {
 
 // Says on standard error why a file is refused.
 fn explain(rt: &HostRuntime, e: FileRefusal) {
-    let number = e.refusal.number();
-    let place = e.place;
     let advice = advice(e.refusal);
     // The reply stands on standard output, so a lost explanation is no failure.
-    let _ = eprintln!(rt; "floorplan: refused {number} at {place}: {advice}; see docs/REFUSALS.md");
+    let _ = eprintln!(rt; "floorplan: {e}: {advice}; see docs/REFUSALS.md");
 }
 
 fn run(rt: &HostRuntime) -> anyhow::Result<()> {
     let mut room = FloorRoom::new(rt.alloc())?;
-    let mut buf = [0u8; MOST];
-    let len = fill(&mut rt.stdin(), &mut buf)?;
-    let verdict = room.print(&buf[0..len]);
+    let mut bytes = Vec::new(rt.alloc());
+    rt.stdin().take(MOST).read_to_end(&mut bytes)?;
+    let verdict = room.print(&bytes);
     rt.stdout().write_all(room.text())?;
     if let Err(e) = verdict {
         explain(rt, e);
@@ -73,6 +55,7 @@ fn run(rt: &HostRuntime) -> anyhow::Result<()> {
 }
 
 // The one line of an error names the program, so main answers the status, and not the error for the runtime to print.
+// Both programs have these lines: a crate for them would be longer than they are.
 fn main(rt: HostRuntime) -> ExitCode {
     match run(&rt) {
         Ok(()) => ExitCode::SUCCESS,

@@ -1,5 +1,5 @@
 -- How long a floor's text can be: at most 3,894 bytes. Assumes nothing.
-use Rattle.std.proofs.Common.{◌≡◌, ℕ, suc, ◌+◌, ◌*◌, ◌^◌, ◌<◌, ◌≤◌, true, cond, leb, List, [], ◌∷◌, length, get_or, codes, decimal, ap, ⊎_elim, arith}
+use Rattle.std.proofs.Common.{◌≡◌, ℕ, suc, ◌+◌, ◌*◌, ◌^◌, ◌<◌, ◌≤◌, true, cond, leb, List, [], ◌∷◌, length, get_or, ◌==◌, Some, None, Option, codes, decimal, ap, ⊎_elim, arith}
 use Rattle.std.specs.List.{flat_map}
 use Rattle.std.proofs.lemmas.Fmt.{length-decimal-le}
 use Rattle.std.proofs.lemmas.List.{length-append}
@@ -8,12 +8,13 @@ use Rattle.routes.specs.declared.route.Route.{Route}
 use Rattle.routes.specs.declared.route.Group.{Group}
 use Rattle.routes.specs.declared.route.Group.TheVariants.{Star, Triangle}
 use Rattle.routes.specs.Order.{no_route, ends, ordered}
+use Rattle.routes.specs.Tests.{is_some_and}
 use Rattle.routes.specs.Decomposition.{Decomposition, Member, Joined, Shaped}
 use Rattle.routes.proofs.Orders.{inside_at}
-use Rattle.floortext.specs.Text.{labelled}
-use Rattle.floortext.specs.Floor.{route_text, member_text, shape_text, group_line, group_lines, floor_text, refusal_text}
-use Rattle.floortext.proofs.Texts.{length_labelled}
-use Rattle.floortext.proofs.Floors.{length_route, length_triangle, length-group_line, length-head_lines, length_floor, length_refusal}
+use Rattle.text.specs.Labelled.{labelled}
+use Rattle.text.specs.Line.{refused_file_line}
+use Rattle.floortext.specs.Floor.{route_text, member_text, shape_text, group_line, group_lines, floor_text}
+use Rattle.floortext.proofs.Floors.{length_route, length_triangle, length-group_line, length-head_lines, length_floor, length_labelled}
 
 -- both ends of a route are of at most two digits
 abbrev Short : Route → Type 0
@@ -24,10 +25,15 @@ abbrev ShortShape : Group → Type 0
 ShortShape (Star c) = c < 100
 ShortShape (Triangle a b c) = (a < 100) × (b < 100) × (c < 100)
 
+-- 1 for a route that is of group k or a later one
+abbrev one_from : ℕ → Option ℕ → ℕ
+one_from k None = 0
+one_from k (Some g) = cond (leb k g) 1 0
+
 -- how many routes are of group k or a later one
 abbrev from : ℕ → List Route → ℕ
 from k [] = 0
-from k (r ∷ t) = cond (leb k r.group) 1 0 + from k t
+from k (r ∷ t) = one_from k r.group + from k t
 
 two_digits : (n : ℕ) → n < 100 → length (decimal n) ≤ 2
 two_digits n h = length-decimal-le 2 n (omega arith) (omega arith) (omega arith)
@@ -45,8 +51,12 @@ shape_le (Triangle a b c) h =
     omega (arith, length_triangle a b c, labelled_le (codes " triangle ") a h.0, labelled_le (codes " ") b h.1, labelled_le (codes " ") c h.2)
 
 -- a route takes its bytes in the line of its own group alone
-member_le : (k : ℕ) (r : Route) → Short r → length (member_text k r) + 6 * cond (leb (k + 1) r.group) 1 0 ≤ 6 * cond (leb k r.group) 1 0
-member_le k r h = grind (arith, nat_tests, route_le r h)
+group_le : (k : ℕ) (o : Option ℕ) (text : List ℕ) → length text ≤ 6 → length (cond (is_some_and (λ j. j == k) o) text []) + 6 * one_from (k + 1) o ≤ 6 * one_from k o
+group_le k None text h = omega arith
+group_le k (Some g) text h = grind (arith, nat_tests)
+
+member_le : (k : ℕ) (r : Route) → Short r → length (member_text k r) + 6 * one_from (k + 1) r.group ≤ 6 * one_from k r.group
+member_le k r h = group_le k r.group (route_text r) (route_le r h)
 
 members_le : (k : ℕ) (t : List Route) → ((i : ℕ) → i < length t → Short (get_or t i no_route))
     → length (flat_map (member_text k) t) + 6 * from (k + 1) t ≤ 6 * from k t
@@ -71,9 +81,13 @@ group_lines_le t k (g ∷ gs) h s q =
       group_lines_le t (k + 1) gs (omega arith) s (λ i e. q (suc i) (omega arith)),
     )
 
+one_most : (k : ℕ) (o : Option ℕ) → one_from k o ≤ 1
+one_most k None = omega arith
+one_most k (Some g) = grind (arith, nat_tests)
+
 from_le : (k : ℕ) (t : List Route) → from k t ≤ length t
 from_le k [] = omega arith
-from_le k (r ∷ t) = let more = from_le k t in grind (arith, nat_tests, more)
+from_le k (r ∷ t) = omega (arith, from_le k t, one_most k r.group)
 
 short_route : (n : ℕ) (t : List Route) → n ≤ 32 → ordered n (ends t) ≡ true → (i : ℕ) → i < length t → Short (get_or t i no_route)
 short_route n t few o i h = let e = inside_at n t i o h in (grind (arith, nat_tests), grind (arith, nat_tests))
@@ -105,13 +119,9 @@ floor_le n t gs few short brief o d =
     )
 
 -- the line of a refused file
-pub refusal_le : (number place : ℕ) → number < 2 ^ 8 → place < 2 ^ 16 → length (refusal_text number place) ≤ 21
-refusal_le number place h i =
-    omega (
-      arith,
-      length_refusal number place,
-      length_labelled (codes "refused ") number,
-      length_labelled (codes " at ") place,
-      length-decimal-le 3 number (omega arith) (omega arith) (omega arith),
-      length-decimal-le 5 place (omega arith) (omega arith) (omega arith),
-    )
+pub refusal_le : (n place : ℕ) → n < 100 → place < 2 ^ 16 → length (refused_file_line n place) ≤ 20
+unfolding refused_file_line
+refusal_le n place h i =
+    let two = two_digits n h in
+    let five = length-decimal-le 5 place (omega arith) (omega arith) (omega arith) in
+    simp length-append (omega arith)

@@ -1,14 +1,14 @@
 -- The parts of a floor's text: how long they are, and what is left of them at each turn. Assumes nothing.
-use Rattle.std.proofs.Common.{◌≡◌, ℕ, ◌+◌, ◌<◌, cond, List, [], ◌++◌, length, get_or, drop, codes, ap, ◌∙◌, arith}
+use Rattle.std.proofs.Common.{◌≡◌, ℕ, ◌+◌, ◌<◌, cond, List, [], ◌++◌, length, get_or, drop, codes, decimal, true, false, ap, ◌∙◌, arith}
 use Rattle.std.specs.List.{flat_map}
 use Rattle.std.proofs.lemmas.List.{length-append, at_drop_more}
-use Rattle.std.proofs.lemmas.Bool.{eq-eqb, ne_eqb}
 use Rattle.routes.specs.declared.route.Route.{Route}
 use Rattle.routes.specs.declared.route.Group.{Group}
 use Rattle.routes.specs.declared.route.Group.TheVariants.{Star, Triangle}
 use Rattle.routes.specs.Order.{no_route}
-use Rattle.floortext.specs.Text.{labelled}
-use Rattle.floortext.specs.Floor.{head_lines, route_text, member_text, shape_text, group_line, group_lines, floor_text, refusal_text}
+use Rattle.routes.specs.Groups.{is_in}
+use Rattle.text.specs.Labelled.{labelled}
+use Rattle.floortext.specs.Floor.{head_lines, route_text, member_text, shape_text, group_line, group_lines, floor_text}
 
 pub length_route : (r : Route) → length (route_text r) ≡ length (labelled (codes " ") r.low) + length (labelled (codes "-") r.high)
 unfolding route_text
@@ -33,29 +33,20 @@ pub length_floor : (n : ℕ) (t : List Route) (gs : List Group)
 unfolding floor_text
 length_floor n t gs = length-append _ _
 
-pub length_refusal : (number place : ℕ)
-    → length (refusal_text number place) ≡ length (labelled (codes "refused ") number) + (length (labelled (codes " at ") place) + 1)
-unfolding refusal_text
-length_refusal number place = simp length-append
-
--- a route of group k is there in its line
-member_in : (k : ℕ) (r : Route) → r.group ≡ k → member_text k r ≡ route_text r
-member_in k r e = ap (λ b. cond b (route_text r) []) (eq-eqb r.group k e)
-
--- a route of another group is not
-member_out : (k : ℕ) (r : Route) → (r.group ≡ k → ⊥) → member_text k r ≡ []
-member_out k r ne = ap (λ b. cond b (route_text r) []) (ne_eqb r.group k ne)
+pub length_labelled : (word : List ℕ) (n : ℕ) → length (labelled word n) ≡ length word + length (decimal n)
+unfolding labelled
+length_labelled word n = length-append word (decimal n)
 
 -- what is left of a group's routes begins with the route at place i, if it is of the group
-pub members_in : (k : ℕ) (t : List Route) (i : ℕ) → i < length t → (get_or t i no_route).group ≡ k
+pub members_in : (k : ℕ) (t : List Route) (i : ℕ) → i < length t → is_in k (get_or t i no_route) ≡ true
     → flat_map (member_text k) (drop i t) ≡ route_text (get_or t i no_route) ++ flat_map (member_text k) (drop (i + 1) t)
 members_in k t i h e =
-    at_drop_more (flat_map (member_text k)) t i no_route h ∙ ap (λ r. r ++ flat_map (member_text k) (drop (i + 1) t)) (member_in k (get_or t i no_route) e)
+    at_drop_more (flat_map (member_text k)) t i no_route h ∙ ap (λ r. r ++ flat_map (member_text k) (drop (i + 1) t)) (ap (λ b. cond b (route_text (get_or t i no_route)) []) e)
 
-pub members_out : (k : ℕ) (t : List Route) (i : ℕ) → i < length t → ((get_or t i no_route).group ≡ k → ⊥)
+pub members_out : (k : ℕ) (t : List Route) (i : ℕ) → i < length t → is_in k (get_or t i no_route) ≡ false
     → flat_map (member_text k) (drop i t) ≡ flat_map (member_text k) (drop (i + 1) t)
 members_out k t i h ne =
-    at_drop_more (flat_map (member_text k)) t i no_route h ∙ ap (λ r. r ++ flat_map (member_text k) (drop (i + 1) t)) (member_out k (get_or t i no_route) ne)
+    at_drop_more (flat_map (member_text k)) t i no_route h ∙ ap (λ r. r ++ flat_map (member_text k) (drop (i + 1) t)) (ap (λ b. cond b (route_text (get_or t i no_route)) []) ne)
 
 -- what is left of the groups' lines begins with the line of the group at place i
 pub group_lines_more : (t : List Route) (gs : List Group) (i : ℕ) → i < length gs

@@ -1,4 +1,3 @@
-mod Texts
 mod Floors
 mod Bounds
 mod Floorplans

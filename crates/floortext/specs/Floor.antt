@@ -1,10 +1,11 @@
--- The text of a floor: its stations, then a line for each group with its routes; or the line of a refused file.
-use Rattle.std.specs.Prelude.{ℕ, ◌+◌, cond, List, [], ◌∷◌, ◌++◌, length, codes, ◌==◌}
+-- The text of a floor: its stations, then a line for each group with its routes.
+use Rattle.std.specs.Prelude.{ℕ, ◌+◌, cond, List, [], ◌∷◌, ◌++◌, length, codes}
 use Rattle.std.specs.List.{flat_map}
 use Rattle.routes.specs.declared.route.Route.{Route}
 use Rattle.routes.specs.declared.route.Group.{Group}
 use Rattle.routes.specs.declared.route.Group.TheVariants.{Star, Triangle}
-use Rattle.floortext.specs.Text.{labelled}
+use Rattle.routes.specs.Groups.{is_in}
+use Rattle.text.specs.Labelled.{labelled}
 
 -- the byte that ends a line
 abbrev pub newline : List ℕ
@@ -16,7 +17,7 @@ route_text r = labelled (codes " ") r.low ++ labelled (codes "-") r.high
 
 -- a route in the line of group k: there if it is of that group
 abbrev pub member_text : ℕ → Route → List ℕ
-member_text k r = cond (r.group == k) (route_text r) []
+member_text k r = cond (is_in k r) (route_text r) []
 
 -- the shape of a group, with its stations
 unfoldable pub shape_text : Group → List ℕ
@@ -39,7 +40,3 @@ head_lines n d = labelled (codes "stations ") n ++ (newline ++ (labelled (codes 
 -- the text of a floor of n stations, its routes and its groups
 unfoldable pub floor_text : ℕ → List Route → List Group → List ℕ
 floor_text n t gs = head_lines n (length gs) ++ group_lines t 0 gs
-
--- the line of a file that was refused, by the refusal's number and its place
-unfoldable pub refusal_text : ℕ → ℕ → List ℕ
-refusal_text number place = labelled (codes "refused ") number ++ (labelled (codes " at ") place ++ newline)

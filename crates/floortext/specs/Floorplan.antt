@@ -6,7 +6,8 @@ use Rattle.dayfile.specs.Check.{file_verdict}
 use Rattle.dayfile.specs.Reading.{file_contents}
 use Rattle.grouping.specs.Plan.{Contents}
 use Rattle.floortext.specs.declared.room.FloorRoom.{FloorRoom}
-use Rattle.floortext.specs.Floor.{floor_text, refusal_text}
+use Rattle.floortext.specs.Floor.{floor_text}
+use Rattle.text.specs.Line.{refused_file_line}
 
 -- the text of what a plan holds
 unfoldable pub contents_text : Contents → List ℕ
@@ -15,7 +16,7 @@ contents_text c = floor_text c.stations c.routes c.groups
 -- the text of a floor where no check failed, else the line of the refusal
 abbrev pub verdict_text : Contents → Option FileRefusal → List ℕ
 verdict_text c None = contents_text c
-verdict_text c (Some e) = refusal_text (told e).0 (told e).1
+verdict_text c (Some e) = refused_file_line (told e).0 (told e).1
 
 -- what is printed of the file of these bytes
 unfoldable pub floorplan_text : List ℕ → List ℕ

@@ -1,11 +1,16 @@
 // The text of a floor, added to a buffer whose room was reserved.
 ghost use Rattle.std.specs.Prelude.{◌≤◌, length};
 ghost use Rattle.std.specs.List.{flat_map};
-ghost use Rattle.floortext.specs.Text.{Room, Added};
-ghost use Rattle.floortext.specs.Floor.{route_text, member_text, shape_text, group_line, group_lines, head_lines, floor_text, refusal_text};
+ghost use Rattle.refusals.specs.Number.{number};
+ghost use Rattle.text.specs.Vector.{Room, Added};
+ghost use Rattle.text.specs.Line.{refused_file_line};
+ghost use Rattle.floortext.specs.Floor.{route_text, member_text, shape_text, group_line, group_lines, head_lines, floor_text};
 
-use crate::text::{put_labelled, put_text};
+use refusals::Refusal;
 use routes::route::{Group, Route};
+use text::number::put_labelled;
+use text::refused::put_refused;
+use text::sink::Sink;
 
 fn put_route(out: &mut Vec<u8>, route: Route)
     requires { Room out.old (length (route_text route)) }
@@ -15,13 +20,13 @@ fn put_route(out: &mut Vec<u8>, route: Route)
     put_labelled(out, b"-", route.high as u16);
 }
 
-// Writes the routes of group k.
+// Writes the routes of group k. A filter of the routes would be no shorter than the test.
 fn put_members(out: &mut Vec<u8>, routes: &[Route], k: u8)
     requires { Room out.old (length (flat_map (member_text k) routes.now)) }
     ensures { Added out.old (flat_map (member_text k) routes.now) out.new }
 {
     for route in routes {
-        if route.group == k {
+        if route.is_in(k as usize) {
             put_route(out, *route);
         }
     }
@@ -48,9 +53,9 @@ fn put_group_line(out: &mut Vec<u8>, routes: &[Route], k: u8, group: Group)
 {
     put_labelled(out, b"count ", k as u16);
     put_shape(out, group);
-    put_text(out, b":");
+    out.put_byte(b':');
     put_members(out, routes, k);
-    put_text(out, b"\n");
+    out.put_byte(b'\n');
 }
 
 fn put_group_lines(out: &mut Vec<u8>, routes: &[Route], groups: &[Group])
@@ -67,9 +72,9 @@ fn put_head_lines(out: &mut Vec<u8>, stations: u16, counts: u16)
     ensures { Added out.old (head_lines stations counts) out.new }
 {
     put_labelled(out, b"stations ", stations);
-    put_text(out, b"\n");
+    out.put_byte(b'\n');
     put_labelled(out, b"counts ", counts);
-    put_text(out, b"\n");
+    out.put_byte(b'\n');
 }
 
 // Writes a floor: its stations, its counts, and a line for each group.
@@ -82,11 +87,10 @@ pub(crate) fn put_floor(out: &mut Vec<u8>, stations: u8, routes: &[Route], group
 }
 
 // Writes the line of a refused file.
-pub(crate) fn put_refusal(out: &mut Vec<u8>, number: u8, place: u16)
-    requires { Room out.old (length (refusal_text number place)) }
-    ensures { Added out.old (refusal_text number place) out.new }
+pub(crate) fn put_refusal(out: &mut Vec<u8>, refusal: Refusal, place: u16)
+    requires { Room out.old (length (refused_file_line (number refusal) place)) }
+    ensures { Added out.old (refused_file_line (number refusal) place) out.new }
 {
-    put_labelled(out, b"refused ", number as u16);
-    put_labelled(out, b" at ", place);
-    put_text(out, b"\n");
+    put_refused(out, refusal, place);
+    out.put_byte(b'\n');
 }

@@ -38,7 +38,7 @@ impl FloorRoom {
                 self.plan.routes(),
                 self.plan.groups(),
             ),
-            Err(e) => put_refusal(&mut self.text, e.refusal.number(), e.place),
+            Err(e) => put_refusal(&mut self.text, e.refusal, e.place),
         }
         verdict
     }

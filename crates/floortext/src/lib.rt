@@ -4,4 +4,3 @@
 mod floor;
 pub mod floorplan;
 pub mod room;
-mod text;

@@ -1,1 +1,4 @@
 pub mod Accepts
+pub mod Drafts
+pub mod Turns
+pub mod Searches

@@ -1,5 +1,5 @@
 -- A group plan shows the laws of a plan, by what every group plan holds.
-use Rattle.std.specs.Prelude.{◌≡◌, ℕ, ◌≤◌, min, max, true, false, List, length, Some, None, Option, ◌≢◌, refl}
+use Rattle.std.specs.Prelude.{◌≡◌, ℕ, ◌+◌, ◌≤◌, min, max, true, false, List, length, Some, None, Option, ◌≢◌, refl}
 use Rattle.std.proofs.Common.{arith, ap}
 use Rattle.std.proofs.lemmas.Bool.Decides.{nat_tests}
 use Rattle.std.proofs.lemmas.Bool.{eqb-true, false≢true}
@@ -29,6 +29,10 @@ between_comm t a b = let x : min a b ≡ min b a = omega arith in let y : max a 
 
 meet_shares : (e f : Entry) → Meet e.0 e.1 f.0 f.1 → shares e f ≡ true
 meet_shares e f m = grind (arith, nat_tests)
+
+-- where each group and each live station has a place, the groups do
+pub few_groups : (g l : ℕ) → g + l ≤ 32 → g ≤ 32
+few_groups g l h = omega arith
 
 pub group_lawful : (n : ℕ) (t : List Route) (gs : List Group) → n ≤ 32 → length gs ≤ 32 → ordered n (ends t) ≡ true → decomposed t gs ≡ true → Lawful (group_meaning (given n t gs))
 group_lawful n t gs few few_groups o d =

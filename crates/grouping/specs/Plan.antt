@@ -31,7 +31,7 @@ built n t = given n (regrouped n t).table (regrouped n t).groups
 
 -- what the plan p holds
 abbrev pub contents : GroupPlan → Contents
-contents p = given p.stations (vec_items p.routes) (vec_items p.groups)
+contents p = given p.draft.stations (vec_items p.draft.routes) (vec_items p.draft.groups)
 
 -- at most 32 stations and 496 routes, which are in order
 abbrev pub acceptable : ℕ → List Route → Bool

@@ -1,5 +1,5 @@
 // The calls of a group plan.
-ghost use Rattle.std.specs.Prelude.{◌≡◌, ◌≤◌, true, false, map, length, vec_capacity};
+ghost use Rattle.std.specs.Prelude.{◌≡◌, ◌≤◌, OnErr, OnOk, is_ok, map, length};
 ghost use Rattle.plans.specs.Meaning.{empty_meaning};
 ghost use Rattle.routes.specs.Order.{ends};
 ghost use Rattle.routes.specs.Groups.{told};
@@ -7,38 +7,16 @@ ghost use Rattle.routes.specs.Decomposition.{Decomposition};
 ghost use Rattle.regrouping.specs.Laws.{RulesFinish};
 ghost use Rattle.grouping.specs.Plan.{acceptable, acceptable_grouped, built, contents, given, group_meaning, nothing};
 
+use crate::degrees::Degrees;
+use crate::draft::Draft;
 use crate::plan::GroupPlan;
+use crate::refused::NotAPlan;
 use crate::room::GroupRoom;
-use crate::steps::regroup_routes;
 use routes::checks::{first_unordered, is_decomposition};
 use routes::route::{Group, Route};
 
-// Puts the routes into a Vec that has room for them.
-pub(crate) fn copy_routes(to: &mut Vec<Route>, routes: &[Route])
-    requires { length routes.now ≤ vec_capacity to.old }
-    ensures items { to.new.items ≡ routes.now }
-    ensures capacity { vec_capacity to.new ≡ vec_capacity to.old }
-{
-    to.clear();
-    for r in routes {
-        to.push_reserved(*r);
-    }
-}
-
-// Puts the groups into a Vec that has room for them.
-pub(crate) fn copy_groups(to: &mut Vec<Group>, groups: &[Group])
-    requires { length groups.now ≤ vec_capacity to.old }
-    ensures items { to.new.items ≡ groups.now }
-    ensures capacity { vec_capacity to.new ≡ vec_capacity to.old }
-{
-    to.clear();
-    for g in groups {
-        to.push_reserved(*g);
-    }
-}
-
 // Whether the stations and their routes make a plan.
-pub(crate) fn is_acceptable(stations: u8, routes: &[Route]) -> bool
+fn is_acceptable(stations: u8, routes: &[Route]) -> bool
     ensures { result ≡ acceptable stations routes.now }
 {
     stations <= 32 && routes.len() <= 496 && first_unordered(stations, routes).is_none()
@@ -52,9 +30,12 @@ impl GroupPlan {
     {
         let GroupRoom { routes, groups } = room;
         GroupPlan {
-            stations: 0,
-            routes,
-            groups,
+            draft: Draft {
+                stations: 0,
+                routes,
+                groups,
+                degrees: Degrees::count(&[]),
+            },
         }
     }
 
@@ -62,7 +43,7 @@ impl GroupPlan {
     pub fn routes(&self) -> &[Route]
         ensures { result.now ≡ (contents self.now).routes }
     {
-        &self.routes
+        &self.draft.routes
     }
 
     // The groups, by their numbers: an edge decomposition of the routes.
@@ -71,7 +52,7 @@ impl GroupPlan {
         ensures told { map told result.now ≡ map told (contents self.now).groups }
         ensures decomposition { Decomposition (contents self.now).routes result.now }
     {
-        &self.groups
+        &self.draft.groups
     }
 
     // Groups the routes anew, by the three rules; the groups held before play no part.
@@ -83,40 +64,36 @@ impl GroupPlan {
         ensures few { length (contents self.new).groups ≤ 32 }
         ensures finish { RulesFinish (contents self.old).stations (contents self.old).routes }
     {
-        let n = self.stations;
-        regroup_routes(&mut self.routes, &mut self.groups, n);
+        self.draft.regroup();
     }
 
-    // Takes the stations, their routes and their groups in place of all that the plan held; false, and nothing altered, where they make no plan.
-    pub fn fill(&mut self, stations: u8, routes: &[Route], groups: &[Group]) -> bool
-        ensures taken { result ≡ acceptable_grouped stations routes.now groups.now }
-        ensures filled { result ≡ true → contents self.new ≡ given stations routes.now groups.now }
-        ensures refused { result ≡ false → self.new ≡ self.old }
+    // Takes the stations, their routes and their groups in place of all that the plan held; nothing is altered where they make no plan.
+    pub fn fill(&mut self, stations: u8, routes: &[Route], groups: &[Group]) -> Result<(), NotAPlan>
+        ensures taken { is_ok result ≡ acceptable_grouped stations routes.now groups.now }
+        ensures filled { OnOk result (contents self.new ≡ given stations routes.now groups.now) }
+        ensures refused { OnErr result (self.new ≡ self.old) }
     {
         if !is_acceptable(stations, routes) {
-            return false;
+            return Err(NotAPlan);
         }
         if groups.len() > 32 || !is_decomposition(routes, groups) {
-            return false;
+            return Err(NotAPlan);
         }
-        copy_routes(&mut self.routes, routes);
-        copy_groups(&mut self.groups, groups);
-        self.stations = stations;
-        true
+        self.draft.put(stations, routes, groups);
+        Ok(())
     }
 
     // Takes the stations and their routes, and groups them by the three rules; the group numbers of the given routes play no part.
-    pub fn fill_routes(&mut self, stations: u8, routes: &[Route]) -> bool
-        ensures taken { result ≡ acceptable stations routes.now }
-        ensures filled { result ≡ true → contents self.new ≡ built stations routes.now }
-        ensures refused { result ≡ false → self.new ≡ self.old }
+    pub fn fill_routes(&mut self, stations: u8, routes: &[Route]) -> Result<(), NotAPlan>
+        ensures taken { is_ok result ≡ acceptable stations routes.now }
+        ensures filled { OnOk result (contents self.new ≡ built stations routes.now) }
+        ensures refused { OnErr result (self.new ≡ self.old) }
     {
         if !is_acceptable(stations, routes) {
-            return false;
+            return Err(NotAPlan);
         }
-        copy_routes(&mut self.routes, routes);
-        self.stations = stations;
-        regroup_routes(&mut self.routes, &mut self.groups, stations);
-        true
+        self.draft.put(stations, routes, &[]);
+        self.draft.regroup();
+        Ok(())
     }
 }

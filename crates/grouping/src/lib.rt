@@ -3,8 +3,11 @@
 
 mod calls;
 mod degrees;
+mod draft;
+mod filling;
 pub mod pairs;
 pub mod plan;
+pub mod refused;
 pub mod room;
 mod search;
 mod steps;

@@ -1,66 +1,58 @@
 // The question of a pair, and the group plan as a plan.
-ghost use Rattle.std.specs.Prelude.{◌≡◌, ◌+◌, ◌-◌, ◌/◌, ◌<◌, true};
-ghost use Rattle.routes.specs.Order.{ascending, ends};
-ghost use Rattle.regrouping.specs.Pairs.{from};
+ghost use Rattle.std.specs.Prelude.{◌≡◌, length, vec_items};
+ghost use Rattle.regrouping.specs.Pairs.{route_from};
+ghost use Rattle.regrouping.specs.Steps.{live};
 ghost use Rattle.regrouping.specs.Table.{remains};
 ghost use Rattle.grouping.specs.Plan.{contents, group_meaning};
-ghost use Rattle.grouping.specs.Laws.{group_lawful};
+ghost use Rattle.grouping.specs.Laws.{few_groups, group_lawful};
 
+use crate::draft::Draft;
 use crate::plan::GroupPlan;
 use plans::plan::Plan;
 use plans::turns::Turns;
 use routes::route::Route;
 
-// The group of the route from low to high, by a search that halves the ascending table.
-pub(crate) fn find_route(routes: &[Route], low: u8, high: u8) -> Option<u8>
-    requires { ascending (ends routes.now) ≡ true }
-    ensures { result ≡ from routes.now low high }
-{
-    let mut start = 0;
-    let mut end = routes.len();
-    while start < end {
-        let mid = start + (end - start) / 2;
-        let r = &routes[mid];
-        if r.low == low && r.high == high {
-            return Some(r.group);
-        }
-        if r.low < low || (r.low == low && r.high < high) {
-            start = mid + 1;
-        } else {
-            end = mid;
-        }
+impl Draft {
+    // The route from low to high.
+    pub(crate) fn find_route(&self, low: u8, high: u8) -> Option<Route>
+        ensures { result ≡ route_from (vec_items self.now.routes) low high }
+    {
+        // The ends are compared one by one: on pairs the search takes two fifths more instructions.
+        let place = self
+            .routes
+            .partition_point(|r| r.low < low || (r.low == low && r.high < high));
+        self.routes
+            .get(place)
+            .copied()
+            .filter(|r| r.pair() == (low, high))
     }
-    None
-}
 
-// Whether the route from low to high is there and has no group yet.
-pub(crate) fn is_open(routes: &[Route], low: u8, high: u8) -> bool
-    requires { ascending (ends routes.now) ≡ true }
-    ensures { result ≡ remains routes.now low high }
-{
-    match find_route(routes, low, high) {
-        Some(group) => group == 255,
-        None => false,
+    // Whether the route from low to high is there and has no group yet.
+    pub(crate) fn remains(&self, low: u8, high: u8) -> bool
+        ensures { result ≡ remains (vec_items self.now.routes) low high }
+    {
+        self.find_route(low, high)
+            .is_some_and(|r| r.group.is_none())
     }
 }
 
 impl Plan for GroupPlan {
     ghost meaning = { λ p. group_meaning (contents p) };
 
-    ghost lawful = { λ p. group_lawful p.stations p.routes.items p.groups.items p.few.0 p.few.2 p.ordered p.decomposed };
+    ghost lawful = { λ p. group_lawful p.draft.stations p.draft.routes.items p.draft.groups.items p.draft.few.0 (few_groups (length p.draft.groups.items) (live p.draft.routes.items p.draft.stations) p.draft.places) p.draft.ordered p.decomposed };
 
     fn stations(&self) -> u8 {
-        self.stations
+        self.draft.stations
     }
 
     fn dials(&self) -> u8 {
-        self.groups.len() as u8
+        self.draft.groups.len() as u8
     }
 
     fn route(&self, a: u8, b: u8) -> Turns {
-        match find_route(&self.routes, a.min(b), a.max(b)) {
-            Some(group) => Turns::One(group),
-            None => Turns::NoRoute,
-        }
+        self.draft
+            .find_route(a.min(b), a.max(b))
+            .and_then(|r| r.group)
+            .map_or(Turns::NoRoute, Turns::One)
     }
 }

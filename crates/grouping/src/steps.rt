@@ -1,170 +1,116 @@
 // The three rules, as steps that write groups.
-ghost use Rattle.std.specs.Prelude.{◌≡◌, ◌<◌, ◌≤◌, true, length, vec_len, vec_capacity};
+ghost use Rattle.std.specs.Prelude.{◌≡◌, ◌<◌};
 ghost use Rattle.std.specs.List.{AllByRecursion};
-ghost use Rattle.routes.specs.Order.{ends, ordered};
-ghost use Rattle.regrouping.specs.Table.{Counted, degree};
-ghost use Rattle.regrouping.specs.Steps.{Inside, Ready, leaves, mark, opened, regrouped, round, rounds, star, triangles, work, write};
+ghost use Rattle.regrouping.specs.Table.{Counted};
+ghost use Rattle.regrouping.specs.Steps.{Inside, leaves, mark, opened, regrouped, round, rounds, star, start, triangles, write};
+ghost use Rattle.grouping.specs.Draft.{Makes, TakesLast};
 
-use crate::degrees::{count_routes, one_less};
-use crate::search::{any_open, best_route, first_triangle, lowest_leaf, other_end};
+use crate::degrees::Degrees;
+use crate::draft::Draft;
 use routes::route::{Group, Route};
 
-// Gives the group g to each remaining route that fits the group k; its ends have one remaining route less.
-pub(crate) fn take_routes(routes: &mut [Route], degrees: &mut [u16; 32], k: Group, g: u8)
+// Gives the group, by its number, to each remaining route that fits it; the route's ends have one remaining route less.
+fn take_routes(routes: &mut [Route], degrees: &mut Degrees, group: Group, number: u8)
     requires inside { AllByRecursion (Inside 32) routes.old }
-    requires counted { Counted degrees.old routes.old }
-    requires number { g < 255 }
-    ensures marked { routes.new ≡ mark k g routes.old }
-    ensures counted { Counted degrees.new routes.new }
+    requires counted { Counted degrees.old.counts routes.old }
+    ensures marked { routes.new ≡ mark group number routes.old }
+    ensures counted { Counted degrees.new.counts routes.new }
 {
+    // A slice and not the draft: while routes change one by one, what a draft holds is not yet so.
     for r in routes.iter_mut() {
-        if r.group == 255 && r.fits(k) {
-            one_less(degrees, *r);
-            r.group = g;
+        if r.group.is_none() && r.fits(group) {
+            degrees.one_less(*r);
+            r.group = Some(number);
         }
-    }
-}
-
-// Writes one group more, with the remaining routes that fit it.
-pub(crate) fn write_group(
-    routes: &mut [Route],
-    groups: &mut Vec<Group>,
-    degrees: &mut [u16; 32],
-    k: Group,
-)
-    requires inside { AllByRecursion (Inside 32) routes.old }
-    requires counted { Counted degrees.old routes.old }
-    requires room { vec_len groups.old < vec_capacity groups.old }
-    requires few { vec_len groups.old < 255 }
-    ensures written { work routes.new groups.new.items ≡ write k (work routes.old groups.old.items) }
-    ensures counted { Counted degrees.new routes.new }
-    ensures capacity { vec_capacity groups.new ≡ vec_capacity groups.old }
-{
-    let g = groups.len() as u8;
-    take_routes(routes, degrees, k, g);
-    groups.push_reserved(k);
-}
-
-// The leaf rule: while a station has exactly one remaining route, a star at the other end of the lowest such station's route.
-pub(crate) fn take_leaves(
-    routes: &mut [Route],
-    groups: &mut Vec<Group>,
-    degrees: &mut [u16; 32],
-    n: u8,
-)
-    requires cap { 32 ≤ vec_capacity groups.old }
-    requires ready { Ready n (work routes.old groups.old.items) }
-    requires counted { Counted degrees.old routes.old }
-    ensures written { work routes.new groups.new.items ≡ leaves n n (work routes.old groups.old.items) }
-    ensures ready { Ready n (work routes.new groups.new.items) }
-    ensures counted { Counted degrees.new routes.new }
-    ensures capacity { vec_capacity groups.new ≡ vec_capacity groups.old }
-{
-    for turn in 0..n {
-        let Some(s) = lowest_leaf(degrees, n) else {
-            return;
-        };
-        let c = other_end(routes, s);
-        write_group(routes, groups, degrees, Group::Star(c));
-    }
-}
-
-// The loose triangle rule: the first loose triangle, while there is one.
-pub(crate) fn take_triangles(
-    routes: &mut [Route],
-    groups: &mut Vec<Group>,
-    degrees: &mut [u16; 32],
-    n: u8,
-)
-    requires cap { 32 ≤ vec_capacity groups.old }
-    requires ready { Ready n (work routes.old groups.old.items) }
-    requires counted { Counted degrees.old routes.old }
-    ensures written { work routes.new groups.new.items ≡ triangles n n (work routes.old groups.old.items) }
-    ensures ready { Ready n (work routes.new groups.new.items) }
-    ensures counted { Counted degrees.new routes.new }
-    ensures capacity { vec_capacity groups.new ≡ vec_capacity groups.old }
-{
-    for turn in 0..n {
-        let Some((a, b, c)) = first_triangle(routes, degrees, n) else {
-            return;
-        };
-        write_group(routes, groups, degrees, Group::Triangle(a, b, c));
-    }
-}
-
-// A star at c, where c has a remaining route.
-pub(crate) fn star_at(routes: &mut [Route], groups: &mut Vec<Group>, degrees: &mut [u16; 32], c: u8)
-    requires cap { 32 ≤ vec_capacity groups.old }
-    requires inside { AllByRecursion (Inside 32) routes.old }
-    requires station { c < 32 }
-    requires counted { Counted degrees.old routes.old }
-    requires room { 0 < degree routes.old c → vec_len groups.old < 32 }
-    ensures written { work routes.new groups.new.items ≡ star c (work routes.old groups.old.items) }
-    ensures counted { Counted degrees.new routes.new }
-    ensures capacity { vec_capacity groups.new ≡ vec_capacity groups.old }
-{
-    if degrees[c as usize] > 0 {
-        write_group(routes, groups, degrees, Group::Star(c));
-    }
-}
-
-// The three rules in turn, once; of the heaviest route's ends the lower comes first.
-pub(crate) fn one_round(
-    routes: &mut [Route],
-    groups: &mut Vec<Group>,
-    degrees: &mut [u16; 32],
-    n: u8,
-)
-    requires cap { 32 ≤ vec_capacity groups.old }
-    requires ready { Ready n (work routes.old groups.old.items) }
-    requires counted { Counted degrees.old routes.old }
-    ensures written { work routes.new groups.new.items ≡ round n (work routes.old groups.old.items) }
-    ensures counted { Counted degrees.new routes.new }
-    ensures capacity { vec_capacity groups.new ≡ vec_capacity groups.old }
-{
-    take_leaves(routes, groups, degrees, n);
-    take_triangles(routes, groups, degrees, n);
-    if let Some(i) = best_route(routes, degrees) {
-        let r = routes[i];
-        star_at(routes, groups, degrees, r.low);
-        star_at(routes, groups, degrees, r.high);
-    }
-}
-
-// The three rules in turn, while a route remains.
-pub(crate) fn all_rounds(routes: &mut [Route], groups: &mut Vec<Group>, n: u8)
-    requires cap { 32 ≤ vec_capacity groups.old }
-    requires ready { Ready n (work routes.old groups.old.items) }
-    ensures written { work routes.new groups.new.items ≡ rounds n n (work routes.old groups.old.items) }
-    ensures capacity { vec_capacity groups.new ≡ vec_capacity groups.old }
-{
-    let mut degrees = count_routes(routes);
-    for turn in 0..n {
-        if !any_open(routes) {
-            return;
-        }
-        one_round(routes, groups, &mut degrees, n);
     }
 }
 
 // Marks every route as one without a group.
-pub(crate) fn open_routes(routes: &mut [Route])
+fn reopen_routes(routes: &mut [Route])
     ensures { routes.new ≡ opened routes.old }
 {
+    // A slice here too, as a draft counts what remains.
     for r in routes.iter_mut() {
-        r.group = 255;
+        r.group = None;
     }
 }
 
-// Groups the routes anew.
-pub(crate) fn regroup_routes(routes: &mut [Route], groups: &mut Vec<Group>, n: u8)
-    requires cap { 32 ≤ vec_capacity groups.old }
-    requires few { (n ≤ 32) × (length routes.old ≤ 496) }
-    requires ordered { ordered n (ends routes.old) ≡ true }
-    ensures written { work routes.new groups.new.items ≡ regrouped n routes.old }
-    ensures capacity { vec_capacity groups.new ≡ vec_capacity groups.old }
-{
-    open_routes(routes);
-    groups.clear();
-    all_rounds(routes, groups, n);
+impl Draft {
+    // Writes one group more, with the remaining routes that fit it.
+    pub(crate) fn write_group(&mut self, group: Group)
+        requires { TakesLast group self.old }
+        ensures { Makes (λ n. write group) self.old self.new }
+    {
+        let number = self.groups.len() as u8;
+        take_routes(&mut self.routes, &mut self.degrees, group, number);
+        self.groups.push_reserved(group);
+    }
+
+    // The leaf rule: while a station has exactly one remaining route, a star at the other end of the lowest such station's route.
+    pub(crate) fn take_leaves(&mut self)
+        ensures { Makes (λ n. leaves n n) self.old self.new }
+    {
+        while let Some(c) = self.lowest_leaf().and_then(|s| self.other_end(s)) {
+            self.write_group(Group::Star(c));
+        }
+    }
+
+    // The loose triangle rule: the first loose triangle, while there is one.
+    pub(crate) fn take_triangles(&mut self)
+        ensures { Makes (λ n. triangles n n) self.old self.new }
+    {
+        // A loop beside that of the leaf rule: one loop over a rule that is handed in would be longer than both.
+        while let Some((a, b, c)) = self.first_triangle() {
+            self.write_group(Group::Triangle(a, b, c));
+        }
+    }
+
+    // A star at c, where c has a remaining route.
+    pub(crate) fn star_at(&mut self, c: u8)
+        requires { c < 32 }
+        ensures { Makes (λ n. star c) self.old self.new }
+    {
+        if self.degree(c) > 0 {
+            self.write_group(Group::Star(c));
+        }
+    }
+
+    // The three rules in turn, once; of the heaviest route's ends the lower comes first.
+    pub(crate) fn one_round(&mut self)
+        ensures { Makes round self.old self.new }
+    {
+        self.take_leaves();
+        self.take_triangles();
+        if let Some(i) = self.best_route() {
+            let r = self.routes[i];
+            self.star_at(r.low);
+            self.star_at(r.high);
+        }
+    }
+
+    // The three rules in turn, while a route remains.
+    pub(crate) fn all_rounds(&mut self)
+        ensures { Makes (λ n. rounds n n) self.old self.new }
+    {
+        while self.any_remains() {
+            self.one_round();
+        }
+    }
+
+    // Makes every route one that remains, and forgets the groups.
+    pub(crate) fn reopen(&mut self)
+        ensures { Makes (λ n w. start w.table) self.old self.new }
+    {
+        reopen_routes(&mut self.routes);
+        self.groups.clear();
+        self.degrees = Degrees::count(&self.routes);
+    }
+
+    // Groups the routes anew.
+    pub(crate) fn regroup(&mut self)
+        ensures { Makes (λ n w. regrouped n w.table) self.old self.new }
+    {
+        self.reopen();
+        self.all_rounds();
+    }
 }

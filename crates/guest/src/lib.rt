@@ -3,13 +3,14 @@
 
 ghost use Rattle.std.specs.Prelude.{◌≡◌, ◌≤◌, min, ◌||◌};
 ghost use Rattle.guest.specs.Hub.{hub_meaning, spoke};
-ghost use Rattle.std.proofs.Common.{rules, arith};
+ghost use Rattle.std.proofs.Common.{arith};
+ghost use Rattle.std.proofs.lemmas.Bool.Decides.{nat_tests};
 
 use plans::plan::Plan;
 use plans::turns::Turns;
 
 // A hub: station 0 hands over to every other, and no two others to each other.
-#[derive(Clone, Copy)]
+#[derive(Clone, Copy, PartialEq, Eq, Debug)]
 pub struct Hub {
     stations: u8,
     ghost few: { stations ≤ 32 },
@@ -17,8 +18,9 @@ pub struct Hub {
 
 impl Hub {
     // A hub of so many stations, at most 32.
-    pub fn new(stations: u8) -> Hub
-        ensures { result.stations ≡ min stations 32 }
+    pub fn new(stations: u8) -> Self
+        ensures stations { result.stations ≡ min stations 32 }
+        ensures meaning { ⟦<Hub as Plan>⟧.meaning result ≡ hub_meaning (min stations 32) }
     {
         Hub {
             stations: stations.min(32),
@@ -36,7 +38,7 @@ impl Hub {
 impl Plan for Hub {
     ghost meaning = { λ h. hub_meaning h.stations };
 
-    ghost lawful = { first_of (Prim.search rules, Prim.grind (arith, Self.row.coded.inj)) };
+    ghost lawful = { λ h. let few = h.few in Prim.grind (arith, nat_tests) };
 
     fn stations(&self) -> u8 {
         self.stations

@@ -1,30 +1,15 @@
 -- The lines of the day sheet.
-use Rattle.std.specs.Prelude.{ℕ, List, [], ◌∷◌, ◌++◌, map, codes, decimal}
+use Rattle.std.specs.Prelude.{ℕ, List, [], ◌∷◌, map, codes, decimal}
 use Rattle.refusals.specs.Number.{number}
 use Rattle.order.specs.declared.kinds.Relation.{Relation}
-use Rattle.order.specs.declared.kinds.Relation.TheVariants.{Same, Before, After, Beside}
-use Rattle.lines.specs.Text.{parted}
+use Rattle.order.specs.Words.{relation_word}
+use Rattle.text.specs.Line.{parted, line_of, refused_file_line}
 use Rattle.lines.specs.declared.line.Line.{Line}
 use Rattle.lines.specs.declared.line.Line.TheVariants.{RefusedFile, Handover, RefusedHandover, Question, RefusedQuestion}
-
--- a line: its fields with one space between each two, and byte 10 at the end
-abbrev pub line_of : List (List ℕ) → List ℕ
-line_of fields = parted 32 fields ++ (10 ∷ [])
 
 -- counts in decimals, with a comma between each two
 unfoldable pub commas : List ℕ → List ℕ
 commas counts = parted 44 (map decimal counts)
-
--- the word for how one handover stands to another
-abbrev pub relation_word : Relation → List ℕ
-relation_word Same = codes "same"
-relation_word Before = codes "before"
-relation_word After = codes "after"
-relation_word Beside = codes "beside"
-
--- a refused file, by the refusal's number and place
-unfoldable pub refused_file_line : ℕ → ℕ → List ℕ
-refused_file_line n place = line_of (codes "refused" ∷ decimal n ∷ codes "at" ∷ decimal place ∷ [])
 
 -- a settled handover: its number, giver, taker and counts
 unfoldable pub handover_line : ℕ → ℕ → ℕ → List ℕ → List ℕ

@@ -1,28 +1,16 @@
--- The parts in which the code writes a line: fields, each with the byte after it.
-use Rattle.std.specs.Prelude.{ℕ, List, [], ◌∷◌, ◌++◌, codes, decimal}
-use Rattle.std.specs.List.{flat_map}
+-- The fields in which the code adds a line.
+use Rattle.std.specs.Prelude.{ℕ, List, [], ◌∷◌, codes, decimal}
+use Rattle.refusals.specs.Number.{number}
+use Rattle.text.specs.Line.{refused_fields}
+use Rattle.order.specs.Words.{relation_word}
 use Rattle.lines.specs.Line.{commas}
+use Rattle.lines.specs.declared.line.Line.{Line}
+use Rattle.lines.specs.declared.line.Line.TheVariants.{RefusedFile, Handover, RefusedHandover, Question, RefusedQuestion}
 
--- a field, and the byte after it
-unfoldable pub part : List ℕ → ℕ → List ℕ
-part field b = field ++ (b ∷ [])
-
--- a number in decimals, and the byte after it
-abbrev pub number_part : ℕ → ℕ → List ℕ
-number_part n b = part (decimal n) b
-
--- two numbers, each with a space after it
-unfoldable pub pair_part : ℕ → ℕ → List ℕ
-pair_part m n = number_part m 32 ++ number_part n 32
-
--- a refusal by its number, and the byte after it
-unfoldable pub refusal_part : ℕ → ℕ → List ℕ
-refusal_part n b = part (codes "refused") 32 ++ number_part n b
-
--- numbers, each with a comma after it
-unfoldable pub numbers_part : List ℕ → List ℕ
-numbers_part numbers = flat_map (λ n. number_part n 44) numbers
-
--- counts with commas between them, and the line's end
-abbrev pub counts_part : List ℕ → List ℕ
-counts_part counts = part (commas counts) 10
+-- the fields of a line, which a space parts and the line's end follows
+abbrev pub fields : Line → List (List ℕ)
+fields (RefusedFile refusal place) = refused_fields (number refusal) place
+fields (Handover k giver taker counts) = decimal k ∷ decimal giver ∷ decimal taker ∷ commas counts.now ∷ []
+fields (RefusedHandover giver taker refusal) = codes "-" ∷ decimal giver ∷ decimal taker ∷ codes "refused" ∷ decimal (number refusal) ∷ []
+fields (Question first second relation) = decimal first ∷ decimal second ∷ relation_word relation ∷ []
+fields (RefusedQuestion first second refusal) = decimal first ∷ decimal second ∷ codes "refused" ∷ decimal (number refusal) ∷ []

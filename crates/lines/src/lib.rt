@@ -1,5 +1,5 @@
-//! The lines of the day sheet: one call writes one line into a caller's buffer.
+//! The lines of the day sheet: one call adds one line to a text, or writes it into a caller's buffer.
 #![tactic(auto)]
 
 pub mod line;
-mod text;
+mod parts;

@@ -1,11 +1,18 @@
-// One line of the day sheet, and the call that writes it.
-ghost use Rattle.std.specs.Prelude.{◌≡◌, ◌≤◌, length, nat_le};
+// One line of the day sheet, and the calls that add it to a text or write it.
+ghost use Rattle.std.specs.Prelude.{◌≡◌, length};
+ghost use Rattle.text.specs.Line.{parted};
 ghost use Rattle.lines.specs.Line.{line_text};
-ghost use Rattle.lines.specs.Text.{text_after, text_reply, Wrote};
+ghost use Rattle.lines.specs.Parts.{fields};
+ghost use Rattle.lines.specs.Text.{text_after, text_reply};
 
-use crate::text::*;
+use crate::parts::{put_counts, put_stations};
 use order::kinds::Relation;
 use refusals::Refusal;
+use text::cursor::Cursor;
+use text::measure::Measure;
+use text::number::{put_labelled, put_number};
+use text::refused::put_refused;
+use text::sink::Sink;
 
 // A line of the day sheet by its kind. Any numbers and any list of counts make a line.
 #[derive(Clone, Copy)]
@@ -44,92 +51,70 @@ impl<'a> Line<'a> {
         ensures reply { result ≡ text_reply out.old (line_text self.entry) }
         ensures after { out.new ≡ text_after out.old (line_text self.entry) }
     {
-        if !self.fits(out.len()) {
+        let mut measure = Measure::new(out.len());
+        self.put(&mut measure);
+        if measure.left.is_none() {
             return Err(Refusal::TooShort);
         }
-        Ok(self.put(out))
+        let mut cursor = Cursor::new(out);
+        self.put(&mut cursor);
+        Ok(cursor.written().len())
     }
 
-    // Is the line at most `room` bytes long? Lists of any length must not overflow a sum.
-    fn fits(self, room: usize) -> bool
-        ensures { result ≡ nat_le (length (line_text self.entry)) room }
+    // Adds the line, where there is room for it.
+    pub fn put<S: Sink>(self, out: &mut S)
+        requires { S.has_room out.old (length (line_text self)) }
+        ensures { S.adds out.old (line_text self.entry) out.new }
+    {
+        self.put_fields(out);
+        out.put(b"\n");
+    }
+
+    // Adds the fields of the line, with a space between each two.
+    fn put_fields<S: Sink>(self, out: &mut S)
+        requires { S.has_room out.old (length (parted 32 (fields self))) }
+        ensures { S.adds out.old (parted 32 (fields self.entry)) out.new }
     {
         match self {
-            Line::RefusedFile { refusal, place } => {
-                refusal_len(refusal) + b"at ".len() + number_len(place) <= room
-            }
+            Line::RefusedFile { refusal, place } => put_refused(out, refusal, place),
             Line::Handover {
                 number,
                 giver,
                 taker,
                 counts,
             } => {
-                let numbers = number_len(number) + pair_len(giver as u16, taker as u16);
-                numbers <= room && counts_fit(room - numbers, counts)
-            }
-            Line::RefusedHandover {
-                giver,
-                taker,
-                refusal,
-            } => b"- ".len() + pair_len(giver as u16, taker as u16) + refusal_len(refusal) <= room,
-            Line::Question {
-                first,
-                second,
-                relation,
-            } => pair_len(first, second) + relation_word(relation).len() + 1 <= room,
-            Line::RefusedQuestion {
-                first,
-                second,
-                refusal,
-            } => pair_len(first, second) + refusal_len(refusal) <= room,
-        }
-    }
-
-    // Writes the line, which fits.
-    fn put(self, out: &mut [u8]) -> usize
-        requires { length (line_text self) ≤ length out.old }
-        ensures { Wrote out.old 0 (line_text self.entry) out.new result }
-    {
-        match self {
-            Line::RefusedFile { refusal, place } => {
-                let at = put_refusal(out, 0, refusal, b' ');
-                let at = put_word(out, at, b"at", b' ');
-                put_number(out, at, place, b'\n')
-            }
-            Line::Handover {
-                number,
-                giver,
-                taker,
-                counts,
-            } => {
-                let at = put_number(out, 0, number, b' ');
-                let at = put_pair(out, at, giver as u16, taker as u16);
-                put_counts(out, at, counts)
+                put_number(out, number);
+                put_stations(out, giver, taker);
+                out.put(b" ");
+                put_counts(out, counts);
             }
             Line::RefusedHandover {
                 giver,
                 taker,
                 refusal,
             } => {
-                let at = put_word(out, 0, b"-", b' ');
-                let at = put_pair(out, at, giver as u16, taker as u16);
-                put_refusal(out, at, refusal, b'\n')
+                out.put(b"-");
+                put_stations(out, giver, taker);
+                put_labelled(out, b" refused ", refusal.number() as u16);
             }
             Line::Question {
                 first,
                 second,
                 relation,
             } => {
-                let at = put_pair(out, 0, first, second);
-                put_word(out, at, relation_word(relation), b'\n')
+                put_number(out, first);
+                put_labelled(out, b" ", second);
+                out.put(b" ");
+                out.put(relation.word().as_bytes());
             }
             Line::RefusedQuestion {
                 first,
                 second,
                 refusal,
             } => {
-                let at = put_pair(out, 0, first, second);
-                put_refusal(out, at, refusal, b'\n')
+                put_number(out, first);
+                put_labelled(out, b" ", second);
+                put_labelled(out, b" refused ", refusal.number() as u16);
             }
         }
     }

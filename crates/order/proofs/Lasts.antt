@@ -1,6 +1,6 @@
 -- A station's last entry. Assumes nothing.
-use Rattle.std.proofs.Common.{◌≡◌, ℕ, zero, suc, ◌<◌, ◌≤◌, true, false, List, length, Some, None, Option, refl, ap, subst, ⊎_elim, arith}
-use Rattle.std.proofs.lemmas.Bool.{cases_lt, cases_order, cond_both, both_ways}
+use Rattle.std.proofs.Common.{◌≡◌, ℕ, zero, suc, ◌<◌, true, false, List, length, Some, None, Option, refl, subst, arith}
+use Rattle.std.proofs.lemmas.Bool.{cond_both}
 use Rattle.plans.specs.Meaning.{Entry, has}
 use Rattle.order.specs.Plain.{entry, last_below, LastLaw}
 
@@ -11,9 +11,8 @@ Latest es s n (Some k) = (k < n) × (has s (entry es k) ≡ true) × ((j : ℕ) 
 
 -- one entry more, which has not s
 latest_pass : (es : List Entry) (s n : ℕ) (o : Option ℕ) → has s (entry es n) ≡ false → Latest es s n o → Latest es s (suc n) o
-latest_pass es s n None h l = λ i li. ⊎_elim (l i) (λ (ge : n ≤ i). let e : i ≡ n = omega arith in rw e h) (cases_lt i n)
-latest_pass es s n (Some k) h l =
-    (omega (arith, l.0), l.1, λ j lo hi. ⊎_elim (l.2 j lo) (λ (ge : n ≤ j). let e : j ≡ n = omega arith in rw e h) (cases_lt j n))
+latest_pass es s n None h l = λ i li. let x = l i in grind arith
+latest_pass es s n (Some k) h l = (omega (arith, l.0), l.1, λ j lo hi. let x = l.2 j lo in grind arith)
 
 -- one entry more, which has s
 latest_hit : (es : List Entry) (s n : ℕ) → has s (entry es n) ≡ true → Latest es s (suc n) (Some n)
@@ -28,15 +27,9 @@ latest es s (suc n) =
 -- the last is one alone
 pub latest_one : (es : List Entry) (s n : ℕ) (o o' : Option ℕ) → Latest es s n o → Latest es s n o' → o ≡ o'
 latest_one es s n None None p q = refl
-latest_one es s n None (Some k) p q = absurd (both_ways (has s (entry es k)) (p k q.0) q.1)
-latest_one es s n (Some k) None p q = absurd (both_ways (has s (entry es k)) (q k p.0) p.1)
-latest_one es s n (Some k) (Some j) p q =
-    ap Some
-    (⊎_elim (λ (e : k ≡ j). e)
-    (⊎_elim
-    (λ (l : k < j). absurd (both_ways (has s (entry es j)) (p.2 j l q.0) q.1))
-    (λ (l : j < k). absurd (both_ways (has s (entry es k)) (q.2 k l p.0) p.1)))
-    (cases_order k j))
+latest_one es s n None (Some k) p q = let x = p k in grind arith
+latest_one es s n (Some k) None p q = let x = q k in grind arith
+latest_one es s n (Some k) (Some j) p q = let x = p.2 j in let y = q.2 k in grind arith
 
 pub last_law : (es : List Entry) (s : ℕ) → LastLaw es s
 last_law es s = record {

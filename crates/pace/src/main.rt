@@ -11,14 +11,8 @@ use std::env;
 // The numbers of the command line, 0 where one is missing.
 fn numbers(rt: &HostRuntime) -> anyhow::Result<[u32; 3]> {
     let mut found = [0; 3];
-    let mut at = 0;
-    for word in env::args(rt)? {
-        if at > 0 && at <= 3 {
-            found[at - 1] = word.as_str().parse::<u32>()?;
-        }
-        if at < 4 {
-            at += 1;
-        }
+    for (number, word) in found.iter_mut().zip(env::args(rt)?.skip(1)) {
+        *number = word.as_str().parse()?;
     }
     Ok(found)
 }
@@ -28,18 +22,10 @@ fn hand_over(floor: &mut Floor<StationPlan>, stations: u8, count: u32) -> u32 {
     let mut settled = 0u32;
     let mut giver = 0u8;
     for _ in 0..count {
-        let taker = if giver.saturating_add(1) < stations {
-            giver.saturating_add(1)
-        } else {
-            0
-        };
-        if let Ok(offer) = floor.offer(giver, taker) {
-            match floor.settle(offer) {
-                Ok(_) => settled = settled.saturating_add(1),
-                Err((_, back)) => {
-                    let _ = floor.withdraw(back);
-                }
-            }
+        let next = giver.saturating_add(1);
+        let taker = if next < stations { next } else { 0 };
+        if floor.hand_over(giver, taker).is_ok() {
+            settled = settled.saturating_add(1);
         }
         giver = taker;
     }

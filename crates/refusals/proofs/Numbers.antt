@@ -3,7 +3,7 @@ use Rattle.std.proofs.Common.{◌≡◌, Some, ap, arith}
 use Rattle.refusals.specs.declared.Refusal.{Refusal}
 use Rattle.refusals.specs.Number.{number, refusal_of}
 
-number_back : (e : Refusal) → refusal_of (number e) ≡ Some e
+pub number_back : (e : Refusal) → refusal_of (number e) ≡ Some e
 number_back e = grind arith
 
 -- no two refusals have one number

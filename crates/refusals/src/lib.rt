@@ -1,59 +1,46 @@
 //! Every refusal of the handover book, each with its number.
 #![tactic(auto)]
 
-ghost use Rattle.std.specs.Prelude.{◌≡◌, ◌==◌, Some, Decides};
+ghost use Rattle.std.specs.Prelude.{◌≡◌, ◌==◌, ◌↔◌, IsTrue, Some};
+ghost use Rattle.std.specs.Fmt.{padded};
 ghost use Rattle.refusals.specs.Number.{number, refusal_of};
 ghost use Rattle.refusals.specs.Advice.{advice};
-ghost use Rattle.std.specs.Cmp.Rules.{comparing};
-ghost use Rattle.std.proofs.Common.{rules};
 
-// Why a call was refused. docs/REFUSALS.md has a line for each, with what to do.
-#[derive(Clone, Copy, Eq, Debug)]
+use std::error::Error;
+use std::fmt;
+
+// Why a call was refused, with the number by which users know it. docs/REFUSALS.md has a line for
+// each, with what to do.
+#[derive(Clone, Copy, PartialEq, Eq, Debug)]
 pub enum Refusal {
-    FileLength,
-    SectionOffset,
-    SectionLength,
-    Limit,
-    RouteOrder,
-    GroupRecord,
-    RouteGroup,
-    GroupIncomplete,
-    NoStation,
-    SameStation,
-    NoRoute,
-    Busy,
-    BookFull,
-    NotPending,
-    NotSettled,
-    TooShort,
-    JoinUnfit,
+    FileLength = 1,
+    SectionOffset = 2,
+    SectionLength = 3,
+    Limit = 4,
+    RouteOrder = 5,
+    GroupRecord = 6,
+    RouteGroup = 7,
+    GroupIncomplete = 8,
+    NoStation = 9,
+    SameStation = 10,
+    NoRoute = 11,
+    Busy = 12,
+    BookFull = 13,
+    NotPending = 14,
+    NotSettled = 15,
+    TooShort = 16,
+    JoinUnfit = 17,
 }
 
 impl Refusal {
-    // The number by which users know the refusal; no two refusals have the same.
+    // No two refusals have the same number, and two refusals are equal exactly when their numbers are.
     pub fn number(self) -> u8
         ensures exact { result ≡ number self }
         ensures alone { refusal_of result ≡ Some self }
+        ensures equal { (other : Refusal) → ⟦<Refusal as PartialEq>⟧.eq self other ≡ (result == number other) }
+        ensures same { (other : Refusal) → IsTrue (⟦<Refusal as PartialEq>⟧.eq self other) ↔ (self ≡ other) }
     {
-        match self {
-            Refusal::FileLength => 1,
-            Refusal::SectionOffset => 2,
-            Refusal::SectionLength => 3,
-            Refusal::Limit => 4,
-            Refusal::RouteOrder => 5,
-            Refusal::GroupRecord => 6,
-            Refusal::RouteGroup => 7,
-            Refusal::GroupIncomplete => 8,
-            Refusal::NoStation => 9,
-            Refusal::SameStation => 10,
-            Refusal::NoRoute => 11,
-            Refusal::Busy => 12,
-            Refusal::BookFull => 13,
-            Refusal::NotPending => 14,
-            Refusal::NotSettled => 15,
-            Refusal::TooShort => 16,
-            Refusal::JoinUnfit => 17,
-        }
+        self as u8
     }
 
     // Why the refusal came, and what to do, in words for a person.
@@ -98,16 +85,14 @@ impl Refusal {
     }
 }
 
-// Two refusals are equal exactly when their numbers are.
-impl PartialEq for Refusal {
-    ghost eq = { λ x y. number x == number y };
+impl fmt::Display for Refusal {
+    ghost output = { λ e. Some (advice e) };
 
-    ghost laws = { Prim.search (comparing, rules) };
+    ghost styled_output = { λ e spec. Some (padded spec (advice e)) };
 
-    fn eq(&self, other: &Refusal) -> bool
-        ensures numbers { result ≡ (number self.now == number other.now) }
-        ensures same { Decides result (self.now ≡ other.now) }
-    {
-        self.number() == other.number()
+    fn fmt<W: fmt::Write>(&self, f: &mut fmt::Formatter<W>) -> fmt::Result {
+        f.pad(self.advice())
     }
 }
+
+impl Error for Refusal {}

@@ -6,10 +6,10 @@ use Rattle.std.proofs.lemmas.Bool.Decides.{nat_tests}
 use Rattle.std.proofs.lemmas.Bool.{cond-true, cond-false, eq-eqb, ne_eqb, eqb-true, cases_eq, le-ltb}
 use Rattle.routes.specs.declared.route.Route.{Route}
 use Rattle.routes.specs.Order.{no_route}
-use Rattle.routes.proofs.Firsts.{first_same, first_none}
-use Rattle.regrouping.specs.Table.{remaining, touches, on, degree, Counted, weight, best_from, lone, lowest_lone, leaf, remains, loose, third, second, lowest, triangle}
-use Rattle.regrouping.specs.Steps.{in_group, Inside}
-use Rattle.regrouping.proofs.Tables.{degree_more, degree_small, best_more}
+use Rattle.routes.proofs.Firsts.{first_none}
+use Rattle.regrouping.specs.Table.{remaining, touches, on, degree, Counted, weight, best_from, remains, loose, third, second, lowest, triangle}
+use Rattle.regrouping.specs.Steps.{in_group}
+use Rattle.regrouping.proofs.Tables.{degree_more, best_more}
 
 -- one route is written anew
 pub degree_set : (t : List Route) (i s : ℕ) (x : Route) → i < length t → degree (set t i x) s + cond (on s (get_or t i no_route)) 1 0 ≡ degree t s + cond (on s x) 1 0
@@ -32,18 +32,6 @@ count_over t i s x h r e =
     let o : ◌≡◌ {A = ℕ} (cond (on s (get_or t i no_route)) 1 0) 0 = ap (λ b. cond {A = ℕ} (b && touches s (get_or t i no_route)) 1 0) r in
     omega arith
 
--- a count is at most the number of routes
-pub count_small : (d : List ℕ) (t : List Route) (s : ℕ) → Counted d t → s < 32 → length t ≤ 496 → get_or d s 0 ≤ 496
-count_small d t s c h l = omega (arith, c s h, degree_small t s)
-
--- the weight of a route that remains, by the counts
-pub weight_counted : (d : List ℕ) (t : List Route) (r : Route) → Counted d t → Inside 32 r → remaining r ≡ true → get_or d r.low 0 + get_or d r.high 0 ≡ weight t r
-weight_counted d t r c h e =
-    let a = c r.low (omega (arith, h.0, h.1)) in
-    let b = c r.high h.1 in
-    let w = cond-true (remaining r) (degree t r.low + degree t r.high) 0 e in
-    cc
-
 -- a route that does not remain is not the heaviest
 pub best_skip : (t : List Route) (i top : ℕ) (b : Option ℕ) → i < length t → remaining (get_or t i no_route) ≡ false →
     best_from (weight t) (drop i t) i top b ≡ best_from (weight t) (drop (i + 1) t) (i + 1) top b
@@ -54,17 +42,12 @@ best_skip t i top b h e =
 
 -- ---- a route that gets a group
 -- it leaves each of its ends with one remaining route less
-pub count_out : (t : List Route) (i s g x y : ℕ) → i < length t → g < 255 → remaining (get_or t i no_route) ≡ true → x ≡ degree t s → x ≡ y + cond (touches s (get_or t i no_route)) 1 0 →
+pub count_out : (t : List Route) (i s g x y : ℕ) → i < length t → remaining (get_or t i no_route) ≡ true → x ≡ degree t s → x ≡ y + cond (touches s (get_or t i no_route)) 1 0 →
     y ≡ degree (set t i (in_group g (get_or t i no_route))) s
-count_out t i s g x y h l r e z =
+count_out t i s g x y h r e z =
     let q = degree_set t i s (in_group g (get_or t i no_route)) h in
     let o : cond (on s (get_or t i no_route)) 1 0 ≡ cond {A = ℕ} (touches s (get_or t i no_route)) 1 0 = ap (λ b. cond {A = ℕ} (b && touches s (get_or t i no_route)) 1 0) r in
-    let n : ◌≡◌ {A = ℕ} (cond (on s (in_group g (get_or t i no_route))) 1 0) 0 = ap (λ b. cond {A = ℕ} (b && touches s (get_or t i no_route)) 1 0) (ne_eqb g 255 (λ w. omega arith)) in
     omega arith
-
--- ---- the leaf
-pub leaf_counted : (d : List ℕ) (t : List Route) (n : ℕ) → n ≤ 32 → Counted d t → lowest_lone (λ s. get_or d s 0) n ≡ leaf t n
-leaf_counted d t n h c = first_same (lone (λ s. get_or d s 0)) (lone (degree t)) n 0 (λ j l m. ap (λ x. cond (eqb x 1) (Some j) None) (c j (omega arith)))
 
 -- ---- the loose triangle
 -- no third station, where neither a nor b has exactly two remaining routes

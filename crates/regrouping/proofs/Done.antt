@@ -8,13 +8,13 @@ use Rattle.routes.specs.declared.route.Route.{Route}
 use Rattle.routes.specs.declared.route.Group.{Group}
 use Rattle.routes.specs.declared.route.Group.TheVariants.{Star}
 use Rattle.routes.specs.Order.{no_route}
-use Rattle.regrouping.specs.Table.{degree, best}
+use Rattle.regrouping.specs.Table.{remaining, degree, best}
 use Rattle.regrouping.specs.Steps.{Work, write, leaves, triangles, star, heaviest, round, rounds, some_open, live, Ready}
 use Rattle.regrouping.proofs.Live.{degree_mark_le, degree_star, live_less, live_le}
 use Rattle.regrouping.proofs.Tables.{ends_live}
 use Rattle.regrouping.proofs.Taking.{best_none, best_some}
 use Rattle.regrouping.proofs.Keeps.{answer_both, degree_inside}
-use Rattle.regrouping.proofs.Written.{New, keeps_leaves, keeps_triangles, keeps_star, keeps_heaviest, keeps_round}
+use Rattle.regrouping.proofs.Written.{New, ready_some_star, ready_round, keeps_leaves, keeps_triangles, keeps_star, keeps_heaviest, keeps_round}
 
 -- ---- the stations that have routes
 pub live_pos : (t : List Route) (n s : ℕ) → s < n → 0 < degree t s → 0 < live t n
@@ -24,7 +24,7 @@ live_pos t (suc n) s h p =
     (λ l. let e : s ≡ n = omega arith in let p' : 0 < degree t n = subst (λ x. 0 < degree t x) e p in grind (arith, nat_tests)) (cases_lt s n)
 
 abbrev pub Closed : List Route → Type 0
-Closed t = AllByRecursion (λ r. eqb r.group 255 ≡ false) t
+Closed t = AllByRecursion (λ r. remaining r ≡ false) t
 
 closed_degree : (t : List Route) (s : ℕ) → Closed t → degree t s ≡ 0
 closed_degree [] s h = refl
@@ -36,17 +36,17 @@ closed_live t (suc n) h = let i = closed_live t n h in let d = closed_degree t n
 
 pub closed_from : (t : List Route) → some_open t ≡ false → Closed t
 closed_from [] e = tt
-closed_from (r ∷ rs) e = let u = or_parts (eqb r.group 255) (some_open rs) e in (u.0, closed_from rs u.1)
+closed_from (r ∷ rs) e = let u = or_parts (remaining r) (some_open rs) e in (u.0, closed_from rs u.1)
 
 pub closed_open : (t : List Route) → Closed t → some_open t ≡ false
 closed_open [] h = refl
-closed_open (r ∷ rs) h = or_from (eqb r.group 255) (some_open rs) h.0 (closed_open rs h.1)
+closed_open (r ∷ rs) h = or_from (remaining r) (some_open rs) h.0 (closed_open rs h.1)
 
 -- ---- the heaviest route rule finds a route while one remains
 pub best_closed : (t : List Route) → best t ≡ None → Closed t
 best_closed t e =
-    All-from_get_or (λ r. eqb r.group 255 ≡ false) t no_route
-    (λ i h. ⊎_elim (λ o. absurd (best_none t e i (record { place = h; is = o }))) (λ o. o) (cases_Bool (eqb (get_or t i no_route).group 255)))
+    All-from_get_or (λ r. remaining r ≡ false) t no_route
+    (λ i h. ⊎_elim (λ o. absurd (best_none t e i (record { place = h; is = o }))) (λ o. o) (cases_Bool (remaining (get_or t i no_route))))
 
 -- ---- each round has a station less
 abbrev Most : ℕ → ℕ → Work → Type 0
@@ -54,14 +54,14 @@ Most n m w = live w.table n ≤ m
 
 most_write : (n m : ℕ) (k : Group) (w : Work) → Ready n w → New k w.table → Most n m w → Most n m (write k w)
 most_write n m k w r e h =
-    omega (arith, live_le w.table (write k w).table n (λ s. degree_mark_le k (length w.groups) s w.table (omega (arith, r.room))), h)
+    omega (arith, live_le w.table (write k w).table n (λ s. degree_mark_le k (length w.groups) s w.table), h)
 
 star_less : (n c : ℕ) (w : Work) → Ready n w → 0 < degree w.table c → live (star c w).table n < live w.table n
 star_less n c w r p =
     cond_both (eqb (degree w.table c) 0) w (write (Star c) w) (λ v. live v.table n < live w.table n)
     (λ e. absurd (let q = eqb-true (degree w.table c) 0 e in omega arith))
-    (λ _. live_less w.table (write (Star c) w).table n c (λ s. degree_mark_le (Star c) (length w.groups) s w.table (omega (arith, r.room)))
-    (degree_star c (length w.groups) w.table (omega (arith, r.room))) p (degree_inside n c w r p))
+    (λ _. live_less w.table (write (Star c) w).table n c (λ s. degree_mark_le (Star c) (length w.groups) s w.table)
+    (degree_star c (length w.groups) w.table) p (degree_inside n c w r p))
 
 heaviest_less : (n : ℕ) (w : Work) → Ready n w → 0 < live w.table n → live (heaviest w).table n < live w.table n
 heaviest_less n w r p =
@@ -70,7 +70,7 @@ heaviest_less n w r p =
     (λ i e. let q = best_some w.table i e in
     let a = star_less n (get_or w.table i no_route).low w r (ends_live w.table i q.remains.place q.remains.is).0 in
     let s = star (get_or w.table i no_route).low w in
-    let rs : Ready n s = (keeps_star n (λ _. Unit {0}) (λ _ _ _ _ _. tt) (get_or w.table i no_route).low w (r, tt)).0 in
+    let rs : Ready n s = ready_some_star n (get_or w.table i no_route).low w r in
     let b = (keeps_star n (Most n (live s.table n)) (most_write n (live s.table n)) (get_or w.table i no_route).high s (rs, omega arith)).1 in
     omega (arith, a, b))
 
@@ -90,12 +90,12 @@ pub rounds_done : (k n : ℕ) (w : Work) → Ready n w → live w.table n ≤ k 
 rounds_done zero n w r h = omega arith
 rounds_done (suc k) n w r h =
     cond_both (some_open w.table) _ w (λ v. live v.table n ≡ 0)
-    (λ _. rounds_done k n (round n w) (keeps_round n (λ _. Unit {0}) (λ _ _ _ _ _. tt) w (r, tt)).0
+    (λ _. rounds_done k n (round n w) (ready_round n w r)
     (⊎_elim (λ (z : 0 < live w.table n). let q = round_less n w r z in omega arith) (λ (z : live w.table n ≤ 0). let q = round_le n w r in omega arith) (cases_lt 0 (live w.table n))))
     (λ e. closed_live w.table n (closed_from w.table e))
 
 pub live_closed : (n : ℕ) (w : Work) → Ready n w → live w.table n ≡ 0 → Closed w.table
 live_closed n w r z =
-    All-from_get_or (λ x. eqb x.group 255 ≡ false) w.table no_route
+    All-from_get_or (λ x. remaining x ≡ false) w.table no_route
     (λ i h. ⊎_elim (λ o. absurd (let d = (ends_live w.table i h o).0 in let l = live_pos w.table n _ (degree_inside n _ w r d) d in omega arith)) (λ o. o)
-    (cases_Bool (eqb (get_or w.table i no_route).group 255)))
+    (cases_Bool (remaining (get_or w.table i no_route))))

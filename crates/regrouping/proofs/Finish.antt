@@ -1,5 +1,5 @@
 -- No rule stops while it still applies: the turns of each are enough.
-use Rattle.std.proofs.Common.{◌≡◌, ℕ, zero, suc, ◌<◌, ◌≤◌, true, List, length, Some, None, Option, refl, arith}
+use Rattle.std.proofs.Common.{◌≡◌, ℕ, zero, suc, ◌<◌, ◌≤◌, true, List, length, Some, None, arith}
 use Rattle.routes.specs.declared.route.Route.{Route}
 use Rattle.routes.specs.declared.route.Group.{Group}
 use Rattle.routes.specs.declared.route.Group.TheVariants.{Star, Triangle}
@@ -8,25 +8,21 @@ use Rattle.routes.specs.Order.{ends, ordered}
 use Rattle.regrouping.specs.Steps.{Work, write, mate, leaves, triangles, rounds, opened, start, regrouped, live, Ready}
 use Rattle.regrouping.specs.Laws.{RulesFinish}
 use Rattle.regrouping.proofs.Live.{degree_mark_le, degree_star, loose_spent, live_less, live_small}
-use Rattle.regrouping.proofs.Taking.{leaf_some}
-use Rattle.regrouping.proofs.Keeps.{answer_both, mate_live, triangle_found, degree_inside, ready_leaves, ready_rounds}
-use Rattle.regrouping.proofs.Written.{New, ready_new}
+use Rattle.regrouping.proofs.Taking.{none_from, leaf_some}
+use Rattle.regrouping.proofs.Keeps.{answer_both, mate_live, triangle_found, degree_inside}
+use Rattle.regrouping.proofs.Written.{New, ready_new, ready_leaves, ready_rounds}
 use Rattle.regrouping.proofs.Done.{closed_open, live_closed, rounds_done}
 use Rattle.regrouping.proofs.Regroups.{start_ready}
 
 -- a written group has a station that lost its last routes
 spent : (n : ℕ) (k : Group) (w : Work) → Ready n w → New k w.table → (s : ℕ) × (degree (write k w).table s ≡ 0) × (0 < degree w.table s)
-spent n (Star c) w r e = (c, degree_star c (length w.groups) w.table (omega (arith, r.room)), e)
-spent n (Triangle a b c) w r e = loose_spent w.table a b c (length w.groups) (omega (arith, r.room)) e.0 e.1 e.2
+spent n (Star c) w r e = (c, degree_star c (length w.groups) w.table, e)
+spent n (Triangle a b c) w r e = loose_spent w.table a b c (length w.groups) e.0 e.1 e.2
 
 pub write_less : (n : ℕ) (k : Group) (w : Work) → Ready n w → New k w.table → live (write k w).table n < live w.table n
 write_less n k w r e =
     let q = spent n k w r e in
-    live_less w.table (write k w).table n q.0 (λ s. degree_mark_le k (length w.groups) s w.table (omega (arith, r.room))) q.1 q.2 (degree_inside n q.0 w r q.2)
-
-none_from : {X : Type 0} (o : Option X) → ((x : X) → o ≡ Some x → ⊥) → o ≡ None
-none_from None h = refl
-none_from (Some x) h = absurd (h x refl)
+    live_less w.table (write k w).table n q.0 (λ s. degree_mark_le k (length w.groups) s w.table) q.1 q.2 (degree_inside n q.0 w r q.2)
 
 leaf_new : (n s : ℕ) (w : Work) → leaf w.table n ≡ Some s → New (Star (mate w.table s)) w.table
 leaf_new n s w e = mate_live w.table s (omega (arith, (leaf_some w.table n s e).lone))

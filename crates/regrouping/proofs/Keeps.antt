@@ -1,19 +1,19 @@
--- Each step keeps `Ready`.
-use Rattle.std.proofs.Common.{◌≡◌, ℕ, zero, suc, ◌<◌, true, ◌&&◌, eqb, ltb, List, [], ◌∷◌, length, Some, None, Option, refl, ap, ◌∙◌, arith}
+-- A written group keeps `Ready`.
+use Rattle.std.proofs.Common.{◌≡◌, ℕ, ◌<◌, true, ◌&&◌, ltb, List, [], ◌∷◌, length, Some, None, Option, refl, ap, ◌∙◌, arith}
 use Rattle.std.specs.List.{AllByRecursion}
 use Rattle.std.proofs.lemmas.Bool.Decides.{nat_tests}
 use Rattle.std.proofs.ByRecursion.{All-weaker}
 use Rattle.std.proofs.lemmas.List.{length_push, length-map}
-use Rattle.std.proofs.lemmas.Bool.{cond_both, and_parts, eqb-false, ltb-true}
+use Rattle.std.proofs.lemmas.Bool.{cond_both, and_parts, ltb-true}
 use Rattle.routes.specs.declared.route.Route.{Route}
 use Rattle.routes.specs.declared.route.Group.{Group}
 use Rattle.routes.specs.declared.route.Group.TheVariants.{Star, Triangle}
-use Rattle.routes.specs.Tests.{every}
+use Rattle.std.specs.List.{list_all}
 use Rattle.routes.specs.Order.{pair, ends, inside, ascending, ordered}
 use Rattle.routes.specs.Groups.{fits}
-use Rattle.regrouping.specs.Table.{degree, loose, answer, leaf, triangle, best}
-use Rattle.regrouping.specs.Steps.{Work, in_group, marked, mark, write, mate, leaves, triangles, star, heaviest, round, rounds, some_open, Inside, Ready}
-use Rattle.regrouping.proofs.Taking.{leaf_some, triangle_some}
+use Rattle.regrouping.specs.Table.{remaining, degree, loose, answer, triangle}
+use Rattle.regrouping.specs.Steps.{Work, in_group, marked, mark, write, mate, Inside, Ready}
+use Rattle.regrouping.proofs.Taking.{triangle_some}
 use Rattle.regrouping.proofs.Live.{degree_mark_le, degree_star, loose_spent, live_less}
 
 -- ---- cases of an answer
@@ -34,13 +34,13 @@ mate_live (r ∷ rs) s h = let i = mate_live rs s in grind (arith, nat_tests)
 
 -- ---- the ends stay
 ends_marked : (k : Group) (g : ℕ) (r : Route) → pair (marked k g r) ≡ pair r
-ends_marked k g r = cond_both (eqb r.group 255 && fits k r) (in_group g r) r (λ x. pair x ≡ pair r) (λ _. refl) (λ _. refl)
+ends_marked k g r = cond_both (remaining r && fits k r) (in_group g r) r (λ x. pair x ≡ pair r) (λ _. refl) (λ _. refl)
 
 pub ends_mark : (k : Group) (g : ℕ) (t : List Route) → ends (mark k g t) ≡ ends t
 ends_mark k g [] = refl
 ends_mark k g (r ∷ rs) = let e = ends_marked k g r in let i = ends_mark k g rs in cc
 
-pub inside_all : (n : ℕ) (t : List Route) → every (inside n) (ends t) ≡ true → AllByRecursion (Inside n) t
+pub inside_all : (n : ℕ) (t : List Route) → list_all (inside n) (ends t) ≡ true → AllByRecursion (Inside n) t
 inside_all n [] e = tt
 inside_all n (r ∷ rs) e =
     let u = and_parts (inside n (r.low, r.high)) _ e in
@@ -48,10 +48,10 @@ inside_all n (r ∷ rs) e =
     ((ltb-true r.low r.high v.0, ltb-true r.high n v.1), inside_all n rs u.1)
 
 pub ready_inside : (n : ℕ) (w : Work) → Ready n w → AllByRecursion (Inside n) w.table
-ready_inside n w r = inside_all n w.table (and_parts (every (inside n) (ends w.table)) _ r.ordered).0
+ready_inside n w r = inside_all n w.table (and_parts (list_all (inside n) (ends w.table)) _ r.ordered).0
 
 pub ready_ascending : (n : ℕ) (w : Work) → Ready n w → ascending (ends w.table) ≡ true
-ready_ascending n w r = (and_parts (every (inside n) (ends w.table)) _ r.ordered).1
+ready_ascending n w r = (and_parts (list_all (inside n) (ends w.table)) _ r.ordered).1
 
 -- a station number is below 32
 pub ready_low : (n : ℕ) (w : Work) → Ready n w → AllByRecursion (Inside 32) w.table
@@ -67,39 +67,13 @@ degree_inside n s w r h = degree_below w.table n s (ready_inside n w r) h
 -- ---- one group more
 pub ready_write : (k : Group) (n : ℕ) (w : Work) (s : ℕ) → Ready n w → degree (write k w).table s ≡ 0 → 0 < degree w.table s → Ready n (write k w)
 ready_write k n w s h z p =
-    let g : length w.groups < 255 = omega (arith, h.room) in
-    let l = live_less w.table (write k w).table n s (λ x. degree_mark_le k (length w.groups) x w.table g) z p (degree_inside n s w h p) in
+    let l = live_less w.table (write k w).table n s (λ x. degree_mark_le k (length w.groups) x w.table) z p (degree_inside n s w h p) in
     record { stations = h.stations; ordered = ap (ordered n) (ends_mark k (length w.groups) w.table) ∙ h.ordered; short = omega (arith, h.short, length-map w.table (marked k (length w.groups))); room = omega (arith, length_push w.groups k, h.room, l) }
 
 pub ready_star : (n c : ℕ) (w : Work) → Ready n w → 0 < degree w.table c → Ready n (write (Star c) w)
-ready_star n c w h p = ready_write (Star c) n w c h (degree_star c (length w.groups) w.table (omega (arith, h.room))) p
+ready_star n c w h p = ready_write (Star c) n w c h (degree_star c (length w.groups) w.table) p
 
 pub ready_triangle : (n : ℕ) (x : ℕ × ℕ × ℕ) (w : Work) → Ready n w → Found w.table x → Ready n (write (Triangle x.0 x.1 x.2) w)
 ready_triangle n x w h f =
-    let q = loose_spent w.table x.0 x.1 x.2 (length w.groups) (omega (arith, h.room)) f.0 f.1 f.2 in
+    let q = loose_spent w.table x.0 x.1 x.2 (length w.groups) f.0 f.1 f.2 in
     ready_write (Triangle x.0 x.1 x.2) n w q.0 h q.1 q.2
-
--- ---- the rules
-pub ready_leaf : (n s : ℕ) (w : Work) → Ready n w → leaf w.table n ≡ Some s → Ready n (write (Star (mate w.table s)) w)
-ready_leaf n s w h e = ready_star n _ w h (mate_live w.table s (omega (arith, (leaf_some w.table n s e).lone)))
-
-pub ready_leaves : (k n : ℕ) (w : Work) → Ready n w → Ready n (leaves k n w)
-ready_leaves zero n w h = h
-ready_leaves (suc k) n w h = answer_both (leaf w.table n) w _ (Ready n) (λ _. h) (λ s e. ready_leaves k n _ (ready_leaf n s w h e))
-
-pub ready_triangles : (k n : ℕ) (w : Work) → Ready n w → Ready n (triangles k n w)
-ready_triangles zero n w h = h
-ready_triangles (suc k) n w h = answer_both (triangle w.table n) w _ (Ready n) (λ _. h) (λ x e. ready_triangles k n _ (ready_triangle n x w h (triangle_found w.table n x e)))
-
-pub ready_some_star : (n c : ℕ) (w : Work) → Ready n w → Ready n (star c w)
-ready_some_star n c w h = cond_both (eqb (degree w.table c) 0) w (write (Star c) w) (Ready n) (λ _. h) (λ e. ready_star n c w h (let q = eqb-false (degree w.table c) 0 e in omega arith))
-
-pub ready_heaviest : (n : ℕ) (w : Work) → Ready n w → Ready n (heaviest w)
-ready_heaviest n w h = answer_both (best w.table) w _ (Ready n) (λ _. h) (λ i e. ready_some_star n _ _ (ready_some_star n _ w h))
-
-pub ready_round : (n : ℕ) (w : Work) → Ready n w → Ready n (round n w)
-ready_round n w h = ready_heaviest n _ (ready_triangles n n _ (ready_leaves n n w h))
-
-pub ready_rounds : (k n : ℕ) (w : Work) → Ready n w → Ready n (rounds k n w)
-ready_rounds zero n w h = h
-ready_rounds (suc k) n w h = cond_both (some_open w.table) _ w (Ready n) (λ _. ready_rounds k n _ (ready_round n w h)) (λ _. h)

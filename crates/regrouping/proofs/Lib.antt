@@ -2,7 +2,6 @@ pub mod Tables
 pub mod Taking
 pub mod Live
 pub mod Keeps
-pub mod Runs
 pub mod Written
 pub mod Decomposes
 pub mod Done

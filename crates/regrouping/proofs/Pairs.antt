@@ -1,31 +1,41 @@
 -- What the question of a pair answers in an ordered table.
-use Rattle.std.proofs.Common.{◌≡◌, ℕ, min, max, true, List, get_or, Some, None, refl, ap, ◌∙◌, ⊎_elim, arith}
-use Rattle.std.proofs.lemmas.Bool.{and_parts, cases_Bool}
+use Rattle.std.proofs.Common.{◌≡◌, ℕ, min, max, true, List, get_or, Some, None, sym, refl, ap, ◌∙◌, subst}
+use Rattle.std.proofs.lemmas.Bool.{and_parts}
+use Rattle.std.proofs.lemmas.Option.{none-some, option_and_then_some}
 use Rattle.routes.specs.declared.route.Route.{Route}
-use Rattle.routes.specs.Tests.{every}
-use Rattle.routes.specs.Order.{no_route, inside, ends, ascending, ordered}
+use Rattle.std.specs.List.{list_all}
+use Rattle.routes.specs.Order.{no_route, pair, inside, ends, ascending, ordered}
 use Rattle.routes.specs.Groups.{side}
-use Rattle.routes.specs.Decomposition.{Joined}
 use Rattle.routes.proofs.Decompositions.{pair_side, side_pair}
-use Rattle.regrouping.specs.Pairs.{from, PairLaw}
-use Rattle.regrouping.proofs.Finds.{from_at, from_none, from_some}
+use Rattle.regrouping.specs.Pairs.{group_of, route_between, between, IsBetween, Joins, PairLaw}
+use Rattle.regrouping.proofs.Taking.{none_from}
+use Rattle.regrouping.proofs.Finds.{from_at, from_some}
 
-from_joined : (t : List Route) (a b g : ℕ) → from t a b ≡ Some g → Joined t g (a, b)
-from_joined t a b g e = let q = from_some t a b g e in (q.0, (q.1, q.3), pair_side a b (get_or t q.0 no_route) q.2)
+-- a route that was found is there, and the only one
+is_there : (t : List Route) (a b : ℕ) (r : Route) → route_between t a b ≡ Some r → IsBetween t a b r
+is_there t a b r e = let q = from_some t (min a b) (max a b) r e in (q.0, q.1, q.3, pair_side (min a b) (max a b) r (subst (λ x. side (min a b) (max a b) x ≡ true) q.3 q.2))
 
-joined_from : (t : List Route) (a b g : ℕ) → ascending (ends t) ≡ true → Joined t g (a, b) → from t a b ≡ Some g
-joined_from t a b g o j = from_at t j.0 a b o j.1.0 (side_pair a b (get_or t j.0 no_route) j.2) ∙ ap Some j.1.1
+is_found : (t : List Route) (a b : ℕ) (r : Route) → ascending (ends t) ≡ true → IsBetween t a b r → route_between t a b ≡ Some r
+is_found t a b r o j =
+    from_at t j.0 (min a b) (max a b) o j.1 (side_pair (min a b) (max a b) (get_or t j.0 no_route) (ap pair j.2 ∙ j.3)) ∙ ap Some j.2
 
-none_from : (t : List Route) (a b : ℕ) → ((g : ℕ) → Joined t g (a, b) → ⊥) → from t a b ≡ None
-none_from t a b h =
-    from_none t a b (λ k l. ⊎_elim (λ s. absurd (h (get_or t k no_route).group (k, (l, refl), pair_side a b (get_or t k no_route) s))) (λ s. s) (cases_Bool (side a b (get_or t k no_route))))
+is_missing : (t : List Route) (a b : ℕ) → ((r : Route) → IsBetween t a b r → ⊥) → route_between t a b ≡ None
+is_missing t a b h = none_from (route_between t a b) (λ r e. h r (is_there t a b r e))
+
+-- its group
+pub group_there : (t : List Route) (a b g : ℕ) → between t a b ≡ Some g → Joins t a b g
+group_there t a b g e =
+    option_and_then_some (λ r. r.group) (route_between t a b) g e (λ r f d. let j = is_there t a b r f in (j.0, (j.1, ap (λ x. x.group) j.2 ∙ d), ap pair j.2 ∙ j.3))
+
+group_found : (t : List Route) (a b g : ℕ) → ascending (ends t) ≡ true → Joins t a b g → between t a b ≡ Some g
+group_found t a b g o j = ap group_of (is_found t a b (get_or t j.0 no_route) o (j.0, j.1.0, refl, j.2)) ∙ j.1.1
 
 pub pair_law : (n : ℕ) (t : List Route) → ordered n (ends t) ≡ true → (a b : ℕ) → PairLaw t a b
 pair_law n t o a b =
-    let up = (and_parts (every (inside n) (ends t)) (ascending (ends t)) o).1 in
-    let low = min a b in
-    let high = max a b in
+    let up = (and_parts (list_all (inside n) (ends t)) (ascending (ends t)) o).1 in
     record {
-      some = λ g. (from_joined t low high g, joined_from t low high g up);
-      none = (λ e g j. let f = joined_from t low high g up j in let z : ◌≡◌ {A = ℕ} 0 1 = cc in omega arith, none_from t low high);
+      found = λ r. (is_there t a b r, is_found t a b r up);
+      missing = (λ e r j. none-some r (sym e ∙ is_found t a b r up j), is_missing t a b);
+      some = λ g. (group_there t a b g, group_found t a b g up);
+      none = (λ e g j. none-some g (sym e ∙ group_found t a b g up j), λ h. none_from (between t a b) (λ g e. h g (group_there t a b g e)));
     }

@@ -1,17 +1,18 @@
 -- Regrouping leaves the same routes, decomposed into at most 32 groups.
-use Rattle.std.proofs.Common.{◌≡◌, ℕ, ◌≤◌, true, eqb, List, [], ◌∷◌, ◌++◌, length, take, drop, sym, refl, ap, ◌∙◌, subst, ⊎_elim, arith}
+use Rattle.std.proofs.Common.{◌≡◌, ℕ, ◌≤◌, true, List, [], ◌∷◌, ◌++◌, length, take, drop, sym, refl, ap, ◌∙◌, subst, ⊎_elim, arith}
 use Rattle.std.proofs.lemmas.List.{length-map, take_at}
 use Rattle.std.proofs.lemmas.Bool.{and_parts, and_from, or_cases, both_ways}
 use Rattle.routes.specs.declared.route.Route.{Route}
 use Rattle.routes.specs.declared.route.Group.{Group}
-use Rattle.routes.specs.Tests.{every}
+use Rattle.std.specs.List.{list_all}
 use Rattle.routes.specs.Order.{ends, ordered}
 use Rattle.routes.specs.Groups.{placed, decomposed}
-use Rattle.regrouping.specs.Steps.{work, in_group, opened, start, regrouped, Ready}
+use Rattle.regrouping.specs.Table.{remaining}
+use Rattle.regrouping.specs.Steps.{work, ungrouped, opened, start, regrouped, Ready}
 use Rattle.regrouping.specs.Laws.{Regroups}
 use Rattle.routes.proofs.Orders.{length_ends}
 use Rattle.regrouping.proofs.Live.{live_small}
-use Rattle.regrouping.proofs.Keeps.{ready_rounds}
+use Rattle.regrouping.proofs.Written.{ready_rounds}
 use Rattle.regrouping.proofs.Decomposes.{held, partly_rounds}
 use Rattle.regrouping.proofs.Done.{Closed, rounds_done, live_closed}
 
@@ -19,22 +20,22 @@ ends_opened : (t : List Route) → ends (opened t) ≡ ends t
 ends_opened [] = refl
 ends_opened (r ∷ rs) = ap (λ es. (r.low, r.high) ∷ es) (ends_opened rs)
 
-held_opened : (t : List Route) → every (held []) (opened t) ≡ true
+held_opened : (t : List Route) → list_all (held []) (opened t) ≡ true
 held_opened [] = refl
 held_opened (r ∷ rs) = held_opened rs
 
-placed_all : (gs : List Group) (t : List Route) → Closed t → every (held gs) t ≡ true → every (placed gs) t ≡ true
+placed_all : (gs : List Group) (t : List Route) → Closed t → list_all (held gs) t ≡ true → list_all (placed gs) t ≡ true
 placed_all gs [] h e = refl
 placed_all gs (r ∷ rs) h e =
-    let u = and_parts (held gs r) (every (held gs) rs) e in
-    and_from _ _ (⊎_elim (λ o. absurd (both_ways _ h.0 o)) (λ p. p) (or_cases (eqb r.group 255) (placed gs r) u.0)) (placed_all gs rs h.1 u.1)
+    let u = and_parts (held gs r) (list_all (held gs) rs) e in
+    and_from _ _ (⊎_elim (λ o. absurd (both_ways _ h.0 o)) (λ p. p) (or_cases (remaining r) (placed gs r) u.0)) (placed_all gs rs h.1 u.1)
 
 pub start_ready : (n : ℕ) (t : List Route) → n ≤ 32 → length t ≤ 496 → ordered n (ends t) ≡ true → Ready n (start t)
 start_ready n t few short o =
     record {
       stations = few;
       ordered = ap (ordered n) (ends_opened t) ∙ o;
-      short = omega (arith, length-map t (in_group 255));
+      short = omega (arith, length-map t ungrouped);
       room = omega (arith, live_small (opened t) n);
     }
 

@@ -1,10 +1,9 @@
 -- The steps of the loops over a table of routes.
 use Rattle.std.proofs.Common.{◌≡◌, ℕ, zero, suc, ◌+◌, ◌<◌, ◌≤◌, true, cond, eqb, ltb, List, [], ◌∷◌, length, get_or, drop, Some, Option, refl, ap, arith}
 use Rattle.std.proofs.lemmas.Bool.{cond_both, and_from, or_left, or_right, eq-eqb}
-use Rattle.routes.specs.Tests.{or_else}
+use Rattle.std.specs.Option.{option_or}
 use Rattle.routes.specs.Order.{no_route}
 use Rattle.regrouping.specs.Table.{remaining, touches, on, degree, best_from}
-use Rattle.regrouping.specs.Steps.{mate}
 use Rattle.std.proofs.lemmas.List.{at_drop_more, at_drop_all}
 use Rattle.routes.specs.declared.route.Route.{Route}
 
@@ -24,14 +23,8 @@ best_more w t i top b h = at_drop_more (λ xs. best_from w xs i top b) t i no_ro
 pub best_all : (w : Route → ℕ) (t : List Route) (i top : ℕ) (b : Option ℕ) → length t ≤ i → best_from w (drop i t) i top b ≡ b
 best_all w t i top b h = at_drop_all (λ xs. best_from w xs i top b) t i h
 
-pub hit_two : {X : Type 0} (o p q : Option X) (x : X) → o ≡ Some x → or_else (or_else o p) q ≡ Some x
+pub hit_two : {X : Type 0} (o p q : Option X) (x : X) → o ≡ Some x → option_or (option_or o p) q ≡ Some x
 hit_two o p q x e = rw e
-
-pub mate_more : (t : List Route) (i s : ℕ) → i < length t → mate (drop i t) s ≡ cond (on s (get_or t i no_route)) (cond (eqb (get_or t i no_route).low s) (get_or t i no_route).high (get_or t i no_route).low) (mate (drop (i + 1) t) s)
-mate_more t i s h = at_drop_more (λ xs. mate xs s) t i no_route h
-
-pub mate_all : (t : List Route) (i s : ℕ) → length t ≤ i → mate (drop i t) s ≡ s
-mate_all t i s h = at_drop_all (λ xs. mate xs s) t i h
 
 -- ---- a station's routes
 pub degree_at : (t : List Route) (i s : ℕ) → i < length t → on s (get_or t i no_route) ≡ true → 0 < degree t s

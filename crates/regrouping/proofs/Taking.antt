@@ -11,14 +11,19 @@ use Rattle.regrouping.proofs.Tables.{ends_live}
 -- ---- an answer where a test passes
 pub hit_is : {X : Type 0} (b : Bool) (y x : X) → cond b (Some y) None ≡ Some x → (b ≡ true) × (y ≡ x)
 hit_is true y x e = (refl, cc)
-hit_is false y x e = absurd (let z : ◌≡◌ {A = ℕ} 0 1 = cc in omega arith)
+hit_is false y x e = cc
 
 missed : {X : Type 0} (b : Bool) (x : X) → cond b (Some x) None ≡ None → b ≡ true → ⊥
-missed b x e h = let t = cond-true b (Some x) None h in let z : ◌≡◌ {A = ℕ} 0 1 = cc in omega arith
+missed b x e h = let t = cond-true b (Some x) None h in (cc)
 
 cases_from : {X : Type 0} (o : Option X) (P : Type 0) (Q : X → Type 0) → (o ≡ None → P) → ((x : X) → o ≡ Some x → Q x) → MatchOption o P Q
 cases_from None P Q none some = none refl
 cases_from (Some x) P Q none some = some x refl
+
+-- an option that holds nothing
+pub none_from : {X : Type 0} (o : Option X) → ((x : X) → o ≡ Some x → ⊥) → o ≡ None
+none_from None h = refl
+none_from (Some x) h = absurd (h x refl)
 
 -- ---- the leaf
 pub leaf_none : (t : List Route) (n : ℕ) → leaf t n ≡ None → NoLeaf t n
@@ -130,12 +135,12 @@ remains_weight t i h p =
 
 pub best_none : (t : List Route) → best t ≡ None → NoneRemains t
 best_none t e i h =
-    ⊎_elim (λ q. let w = weight_remains t i h in omega (arith, q.1 i h.place, w)) (λ q. let s = q.1 in let z : ◌≡◌ {A = ℕ} 0 1 = cc in omega arith)
+    ⊎_elim (λ q. let w = weight_remains t i h in omega (arith, q.1 i h.place, w)) (λ q. let s = q.1 in (cc))
     (judged (weight t) t 0 0 None)
 
 pub best_some : (t : List Route) (i : ℕ) → best t ≡ Some i → IsHeaviest t i
 best_some t i e =
-    ⊎_elim (λ q. let s = q.0 in absurd (let z : ◌≡◌ {A = ℕ} 0 1 = cc in omega arith))
+    ⊎_elim (λ q. let s = q.0 in (cc))
     (λ q.
     let s = q.1 in
     let l = q.2 in

@@ -51,3 +51,22 @@ module _ (n : ℕ) (P : Work → Type 0) (step : (k : Group) (w : Work) → Read
   pub keeps_rounds : (k : ℕ) (w : Work) → Both w → Both (rounds k n w)
   keeps_rounds zero w h = h
   keeps_rounds (suc k) w h = cond_both (some_open w.table) _ w Both (λ _. keeps_rounds k _ (keeps_round w h)) (λ _. h)
+
+-- ---- each step keeps `Ready`
+abbrev NoMore : Work → Type 0
+NoMore w = Unit {0}
+
+no_more : (n : ℕ) (k : Group) (w : Work) → Ready n w → New k w.table → NoMore w → NoMore (write k w)
+no_more n k w r e h = tt
+
+pub ready_leaves : (k n : ℕ) (w : Work) → Ready n w → Ready n (leaves k n w)
+ready_leaves k n w r = (keeps_leaves n NoMore (no_more n) k w (r, tt)).0
+
+pub ready_some_star : (n c : ℕ) (w : Work) → Ready n w → Ready n (star c w)
+ready_some_star n c w r = (keeps_star n NoMore (no_more n) c w (r, tt)).0
+
+pub ready_round : (n : ℕ) (w : Work) → Ready n w → Ready n (round n w)
+ready_round n w r = (keeps_round n NoMore (no_more n) w (r, tt)).0
+
+pub ready_rounds : (k n : ℕ) (w : Work) → Ready n w → Ready n (rounds k n w)
+ready_rounds k n w r = (keeps_rounds n NoMore (no_more n) k w (r, tt)).0

@@ -1,12 +1,12 @@
 -- Three tables of routes, and how they are grouped.
-use Rattle.std.specs.Prelude.{◌≡◌, ℕ, [], ◌∷◌}
+use Rattle.std.specs.Prelude.{◌≡◌, ℕ, [], ◌∷◌, Some}
 use Rattle.routes.specs.declared.route.Route.{Route}
 use Rattle.routes.specs.declared.route.Group.TheVariants.{Star, Triangle}
 use Rattle.regrouping.specs.Steps.{work, regrouped}
 
 -- the route from a to b with the group g
 abbrev pub r : ℕ → ℕ → ℕ → Route
-r a b g = record { low = a; high = b; group = g }
+r a b g = record { low = a; high = b; group = Some g }
 
 -- a path of three routes
 abbrev pub PathExample : Type 0

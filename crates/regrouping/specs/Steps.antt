@@ -1,9 +1,9 @@
 -- How the routes are grouped: the three rules, as a run over the routes and the groups written so far.
-use Rattle.std.specs.Prelude.{◌≡◌, ℕ, zero, suc, ◌+◌, ◌<◌, ◌≤◌, Bool, true, cond, ◌&&◌, List, [], ◌∷◌, ◌++◌, map, length, ◌==◌, slice_index_or}
+use Rattle.std.specs.Prelude.{◌≡◌, ℕ, zero, suc, ◌+◌, ◌<◌, ◌≤◌, Bool, true, cond, ◌&&◌, List, [], ◌∷◌, ◌++◌, map, length, Some, None, ◌==◌, slice_index_or}
 use Rattle.routes.specs.declared.route.Route.{Route}
 use Rattle.routes.specs.declared.route.Group.{Group}
 use Rattle.routes.specs.declared.route.Group.TheVariants.{Star, Triangle}
-use Rattle.routes.specs.Tests.{some}
+use Rattle.std.specs.List.{list_any}
 use Rattle.routes.specs.Order.{no_route, ends, ordered}
 use Rattle.routes.specs.Groups.{fits}
 use Rattle.regrouping.specs.Table.{remaining, on, degree, leaf, triangle, best, answer}
@@ -19,7 +19,7 @@ work t gs = record { table = t; groups = gs }
 
 -- the route with the group g
 abbrev pub in_group : ℕ → Route → Route
-in_group g r = record { low = r.low; high = r.high; group = g }
+in_group g r = record r { group = Some g }
 
 -- a remaining route that fits k gets the group g
 abbrev pub marked : Group → ℕ → Route → Route
@@ -66,16 +66,20 @@ round n w = heaviest (triangles n n (leaves n n w))
 
 -- whether a route remains
 abbrev pub some_open : List Route → Bool
-some_open t = some remaining t
+some_open t = list_any remaining t
 
 -- the three rules in turn while routes remain, at most k times
 abbrev pub rounds : ℕ → ℕ → Work → Work
 rounds zero n w = w
 rounds (suc k) n w = cond (some_open w.table) (rounds k n (round n w)) w
 
+-- the route without a group
+abbrev pub ungrouped : Route → Route
+ungrouped r = record r { group = None }
+
 -- all routes remain
 abbrev pub opened : List Route → List Route
-opened t = map (in_group 255) t
+opened t = map ungrouped t
 
 -- no route has a group, and no group is written
 abbrev pub start : List Route → Work

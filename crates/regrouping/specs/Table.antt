@@ -1,12 +1,13 @@
--- The routes that remain, those whose group is 255, and what the three rules ask of them.
-use Rattle.std.specs.Prelude.{◌≡◌, ℕ, ◌+◌, ◌-◌, ◌<◌, Bool, cond, ◌&&◌, ◌||◌, List, [], ◌∷◌, Some, None, Option, ◌==◌, nat_lt, slice_index}
+-- The routes that remain, those without a group, and what the three rules ask of them.
+use Rattle.std.specs.Prelude.{◌≡◌, ℕ, ◌+◌, ◌-◌, ◌<◌, Bool, cond, ◌&&◌, ◌||◌, List, [], ◌∷◌, Some, None, Option, is_none, ◌==◌, nat_lt, slice_index}
 use Rattle.routes.specs.declared.route.Route.{Route}
-use Rattle.routes.specs.Tests.{some, first}
+use Rattle.std.specs.List.{list_any}
+use Rattle.routes.specs.Tests.{first}
 use Rattle.routes.specs.Groups.{side}
 
 -- the route remains: it has no group yet
 abbrev pub remaining : Route → Bool
-remaining r = r.group == 255
+remaining r = is_none r.group
 
 -- s is an end of the route
 abbrev pub touches : ℕ → Route → Bool
@@ -48,7 +49,7 @@ joins a b r = remaining r && side a b r
 
 -- the route from a to b is there and remains
 abbrev pub remains : List Route → ℕ → ℕ → Bool
-remains t a b = some (joins a b) t
+remains t a b = list_any (joins a b) t
 
 -- two at least of the three
 abbrev pub two_of : Bool → Bool → Bool → Bool

@@ -1,6 +1,6 @@
 -- What an edge decomposition is: a partition of the routes into parts, each with at least one route, each a star or a triangle.
--- Each route names the number of its part, so it is in that part and in no other; the part of number g has the g-th record.
-use Rattle.std.specs.Prelude.{◌≡◌, ℕ, ◌<◌, ◌⊎◌, List, length, get_or, slice_index_or}
+-- A route names the number of its part, so it is in that part and in no other; the part of number g has the g-th record.
+use Rattle.std.specs.Prelude.{◌≡◌, ℕ, ◌<◌, ◌⊎◌, List, length, get_or, IsSomeAnd, Some, slice_index_or}
 use Rattle.routes.specs.declared.route.Route.{Route}
 use Rattle.routes.specs.declared.route.Group.{Group}
 use Rattle.routes.specs.declared.route.Group.TheVariants.{Star, Triangle}
@@ -8,7 +8,7 @@ use Rattle.routes.specs.Order.{no_route, pair}
 
 -- there is a route at place i, and it is in the part numbered g
 abbrev pub Member : List Route → ℕ → ℕ → Type 0
-Member t g i = (i < length t) × ((get_or t i no_route).group ≡ g)
+Member t g i = (i < length t) × ((get_or t i no_route).group ≡ Some g)
 
 -- the two stations are the ends of a route of the part numbered g
 abbrev pub Joined : List Route → ℕ → ℕ × ℕ → Type 0
@@ -29,7 +29,7 @@ Shaped t g (Triangle a b c) =
 -- the routes of the table t, each of which names its part, and the parts' records gs
 pub record Decomposition (t : List Route) (gs : List Group) : Type 0 where
   -- every route is in one of the parts
-  pub covered : (i : ℕ) → i < length t → (get_or t i no_route).group < length gs
+  pub covered : (i : ℕ) → i < length t → IsSomeAnd (get_or t i no_route).group (λ g. g < length gs)
   -- every part has a route
   pub inhabited : (g : ℕ) → g < length gs → (i : ℕ) × Member t g i
   -- every part has the shape that its record says

@@ -1,11 +1,12 @@
 -- The order of routes: by the lower end, then by the higher.
-use Rattle.std.specs.Prelude.{ℕ, ◌-◌, Bool, true, ◌&&◌, ◌||◌, List, [], ◌∷◌, map, length, Option, ◌==◌, nat_lt, slice_index_or}
+use Rattle.std.specs.Prelude.{ℕ, ◌-◌, Bool, true, ◌&&◌, ◌||◌, List, [], ◌∷◌, map, length, None, Option, ◌==◌, nat_lt, slice_index_or}
 use Rattle.routes.specs.declared.route.Route.{Route}
-use Rattle.routes.specs.Tests.{every, first_failing}
+use Rattle.std.specs.List.{list_all}
+use Rattle.routes.specs.Tests.{first_failing}
 
 -- what is read past the end of a table
 abbrev pub no_route : Route
-no_route = record { low = 0; high = 0; group = 0 }
+no_route = record { low = 0; high = 0; group = None }
 
 -- the ends of a route, the lower first
 abbrev pub pair : Route → ℕ × ℕ
@@ -25,11 +26,11 @@ inside n e = nat_lt e.0 e.1 && nat_lt e.1 n
 
 abbrev pub ascending : List (ℕ × ℕ) → Bool
 ascending [] = true
-ascending (e ∷ es) = every (before e) es && ascending es
+ascending (e ∷ es) = list_all (before e) es && ascending es
 
 -- the routes are between stations below n, and ascend strictly
 abbrev pub ordered : ℕ → List (ℕ × ℕ) → Bool
-ordered n es = every (inside n) es && ascending es
+ordered n es = list_all (inside n) es && ascending es
 
 -- the route at place i is between two stations below n, and after the one ahead of it
 abbrev pub in_order : ℕ → List Route → ℕ → Bool

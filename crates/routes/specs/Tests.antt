@@ -1,25 +1,16 @@
--- Tests over the elements of a list, and the first answer among many.
-use Rattle.std.specs.Prelude.{◌≡◌, ℕ, zero, suc, ◌+◌, ◌<◌, Bool, true, false, cond, ◌&&◌, ◌||◌, List, [], ◌∷◌, Some, None, Option}
+-- The first answer among many, and the lowest number at which a test fails.
+use Rattle.std.specs.Option.{option_or}
+use Rattle.std.specs.Prelude.{◌≡◌, ℕ, zero, suc, ◌+◌, ◌<◌, Bool, true, false, cond, Some, None, Option}
 
--- each element passes
-abbrev pub every : {X : Type 0} → (X → Bool) → List X → Bool
-every p [] = true
-every p (x ∷ xs) = p x && every p xs
-
--- an element passes
-abbrev pub some : {X : Type 0} → (X → Bool) → List X → Bool
-some p [] = false
-some p (x ∷ xs) = p x || some p xs
-
--- the first of two answers that is there
-abbrev pub or_else : {X : Type 0} → Option X → Option X → Option X
-or_else None y = y
-or_else (Some x) y = Some x
+-- there is an answer, and it passes
+abbrev pub is_some_and : {X : Type 0} → (X → Bool) → Option X → Bool
+is_some_and p None = false
+is_some_and p (Some x) = p x
 
 -- the first answer among f i, f (i + 1), .., k of them
 abbrev pub first : {X : Type 0} → (ℕ → Option X) → ℕ → ℕ → Option X
 first f zero i = None
-first f (suc k) i = or_else (f i) (first f k (i + 1))
+first f (suc k) i = option_or (f i) (first f k (i + 1))
 
 -- i where the test fails at i
 abbrev pub unless : (ℕ → Bool) → ℕ → Option ℕ

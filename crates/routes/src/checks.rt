@@ -1,7 +1,10 @@
-ghost use Rattle.std.specs.Prelude.{◌≡◌, ◌<◌, true, length, None, Decides, nat_eq};
-ghost use Rattle.routes.specs.Tests.{LowestFailing, some};
+// The checks of routes and groups: the first route out of order, the first that does not fit its
+// group, the first group that is not whole.
+ghost use Rattle.std.specs.Prelude.{◌≡◌, ◌<◌, ◌↔◌, true, length, None, Decides};
+ghost use Rattle.std.specs.List.{list_any};
+ghost use Rattle.routes.specs.Tests.{LowestFailing};
 ghost use Rattle.routes.specs.Order.{ends, ordered, in_order, first_unordered};
-ghost use Rattle.routes.specs.Groups.{has_side, whole, placed_at, whole_at, first_misplaced, first_incomplete, decomposed};
+ghost use Rattle.routes.specs.Groups.{is_in, has_side, whole, placed_at, whole_at, first_misplaced, first_incomplete, decomposed};
 ghost use Rattle.routes.specs.Decomposition.{Decomposition};
 
 use crate::route::{Group, Route};
@@ -10,14 +13,9 @@ use crate::route::{Group, Route};
 pub fn first_unordered(stations: u8, routes: &[Route]) -> Option<usize>
     ensures place { result ≡ first_unordered stations routes.now }
     ensures lowest { LowestFailing (in_order stations routes.now) (length routes.now) result }
-    ensures exact { (result ≡ None → ordered stations (ends routes.now) ≡ true) × (ordered stations (ends routes.now) ≡ true → result ≡ None) }
+    ensures exact { (result ≡ None) ↔ (ordered stations (ends routes.now) ≡ true) }
 {
-    for i in 0..routes.len() {
-        if !is_in_order(stations, routes, i) {
-            return Some(i);
-        }
-    }
-    None
+    (0..routes.len()).find(|&place| !is_in_order(stations, routes, place))
 }
 
 // Whether the route at place i is between two stations, its lower end first, and after the route ahead of it.
@@ -33,12 +31,7 @@ pub fn first_misplaced(routes: &[Route], groups: &[Group]) -> Option<usize>
     ensures place { result ≡ first_misplaced routes.now groups.now }
     ensures lowest { LowestFailing (placed_at routes.now groups.now) (length routes.now) result }
 {
-    for (place, route) in routes.iter().enumerate() {
-        if !route.is_placed(groups) {
-            return Some(place);
-        }
-    }
-    None
+    routes.iter().position(|route| !route.is_placed(groups))
 }
 
 // The lowest group that has not the routes that it must have.
@@ -46,12 +39,10 @@ pub fn first_incomplete(routes: &[Route], groups: &[Group]) -> Option<usize>
     ensures place { result ≡ first_incomplete routes.now groups.now }
     ensures lowest { LowestFailing (whole_at routes.now groups.now) (length groups.now) result }
 {
-    for (number, group) in groups.iter().enumerate() {
-        if !group.is_whole(number, routes) {
-            return Some(number);
-        }
-    }
-    None
+    groups
+        .iter()
+        .enumerate()
+        .position(|(number, group)| !group.is_whole(number, routes))
 }
 
 // Whether the groups are an edge decomposition of the routes.
@@ -78,26 +69,18 @@ impl Group {
     }
 }
 
-// Whether a route names the group of this number.
+// Whether the group of this number has a route.
 fn has_member(routes: &[Route], number: usize) -> bool
-    ensures { result ≡ some (λ x. nat_eq x.group number) routes.now }
+    ensures { result ≡ list_any (is_in number) routes.now }
 {
-    for route in routes {
-        if usize::from(route.group) == number {
-            return true;
-        }
-    }
-    false
+    routes.iter().any(|route| route.is_in(number))
 }
 
 // Whether the group of this number has the side from a to b.
 fn has_side(routes: &[Route], number: usize, a: u8, b: u8) -> bool
     ensures { result ≡ has_side routes.now number a b }
 {
-    for route in routes {
-        if usize::from(route.group) == number && route.is_side(a, b) {
-            return true;
-        }
-    }
-    false
+    routes
+        .iter()
+        .any(|route| route.is_in(number) && route.is_side(a, b))
 }

@@ -7,7 +7,6 @@ use book::offer::Offer;
 use book::room::BookRoom;
 use grouping::plan::GroupPlan;
 use grouping::room::GroupRoom;
-use order::kinds::Relation;
 use plans::closing::Closing;
 use plans::join::Join;
 use plans::plan::Plan;
@@ -20,29 +19,25 @@ fn show_stamp<P: Plan>(rt: &HostRuntime, floor: &Floor<P>, handover: u16) -> any
     let mut counts = [0; 6];
     match floor.stamp(handover, &mut counts) {
         Ok(()) => println!(rt; "stamp of {handover}: {counts:?}")?,
-        Err(refusal) => {
-            let number = refusal.number();
-            println!(rt; "stamp of {handover}: refused {number}")?
-        }
+        Err(refusal) => println!(rt; "stamp of {handover}: refused {}", refusal.number())?,
     }
     Ok(())
 }
 
-// Offers a handover and settles it.
+// Hands over, and prints the number and the stamp.
 fn hand<P: Plan>(
     rt: &HostRuntime,
     floor: &mut Floor<P>,
     giver: u8,
     taker: u8,
 ) -> anyhow::Result<()> {
-    match settled(floor, giver, taker) {
+    match floor.hand_over(giver, taker) {
         Ok(handover) => {
             println!(rt; "{giver} to {taker}: handover {handover}")?;
             show_stamp(rt, floor, handover)
         }
         Err(refusal) => {
-            let number = refusal.number();
-            println!(rt; "{giver} to {taker}: refused {number}")?;
+            println!(rt; "{giver} to {taker}: refused {}", refusal.number())?;
             Ok(())
         }
     }
@@ -50,37 +45,17 @@ fn hand<P: Plan>(
 
 // Settles an offer; one that is refused is withdrawn.
 fn spend<P: Plan>(floor: &mut Floor<P>, offer: Offer) -> Result<u16, Refusal> {
-    match floor.settle(offer) {
-        Ok(handover) => Ok(handover),
-        Err((refusal, back)) => {
-            let _ = floor.withdraw(back);
-            Err(refusal)
-        }
-    }
-}
-
-// The number of a handover that is offered and settled at once.
-fn settled<P: Plan>(floor: &mut Floor<P>, giver: u8, taker: u8) -> Result<u16, Refusal> {
-    let offer = floor.offer(giver, taker)?;
-    spend(floor, offer)
+    floor.settle(offer).map_err(|(refusal, back)| {
+        let _ = floor.withdraw(back);
+        refusal
+    })
 }
 
 // Prints how one handover stands to another.
 fn ask<P: Plan>(rt: &HostRuntime, floor: &Floor<P>, a: u16, b: u16) -> anyhow::Result<()> {
     match floor.relation(a, b) {
-        Ok(relation) => {
-            let word = match relation {
-                Relation::Same => "same",
-                Relation::Before => "before",
-                Relation::After => "after",
-                Relation::Beside => "beside",
-            };
-            println!(rt; "{a} and {b}: {word}")?
-        }
-        Err(refusal) => {
-            let number = refusal.number();
-            println!(rt; "{a} and {b}: refused {number}")?
-        }
+        Ok(relation) => println!(rt; "{a} and {b}: {relation}")?,
+        Err(refusal) => println!(rt; "{a} and {b}: refused {}", refusal.number())?,
     }
     Ok(())
 }
@@ -90,10 +65,7 @@ fn latest<P: Plan>(rt: &HostRuntime, floor: &Floor<P>, station: u8) -> anyhow::R
     match floor.last(station) {
         Ok(Some(handover)) => println!(rt; "last of {station}: {handover}")?,
         Ok(None) => println!(rt; "last of {station}: none yet")?,
-        Err(refusal) => {
-            let number = refusal.number();
-            println!(rt; "last of {station}: refused {number}")?
-        }
+        Err(refusal) => println!(rt; "last of {station}: refused {}", refusal.number())?,
     }
     Ok(())
 }
@@ -137,9 +109,11 @@ fn foreign<P: Plan, Q: Plan>(
     match floor.settle(offer) {
         Ok(handover) => println!(rt; "another floor's 0 to 1: handover {handover}")?,
         Err((refusal, back)) => {
-            let number = refusal.number();
             let home = spend(other, back);
-            println!(rt; "another floor's 0 to 1: refused {number}, and handed back")?;
+            println!(rt;
+                "another floor's 0 to 1: refused {}, and handed back",
+                refusal.number()
+            )?;
             if let Ok(handover) = home {
                 println!(rt; "settled on its own floor: handover {handover}")?;
             }
@@ -150,15 +124,13 @@ fn foreign<P: Plan, Q: Plan>(
 
 // Fills the book until it refuses.
 fn fill_up<P: Plan>(rt: &HostRuntime, floor: &mut Floor<P>) -> anyhow::Result<()> {
-    let mut count = 0u16;
-    for _ in 0..2000 {
-        match settled(floor, 0, 1) {
-            Ok(_) => count = count.saturating_add(1),
-            Err(refusal) => {
-                let number = refusal.number();
-                println!(rt; "after {count} more handovers: refused {number}")?;
-                return Ok(());
-            }
+    for count in 0..2000 {
+        if let Err(refusal) = floor.hand_over(0, 1) {
+            println!(rt;
+                "after {count} more handovers: refused {}",
+                refusal.number()
+            )?;
+            return Ok(());
         }
     }
     Err(anyhow!("the book never filled"))
@@ -167,28 +139,13 @@ fn fill_up<P: Plan>(rt: &HostRuntime, floor: &mut Floor<P>) -> anyhow::Result<()
 // The upper floor: a path of four stations, in two stars, the groups built.
 fn path(rt: &HostRuntime) -> anyhow::Result<GroupPlan> {
     let mut plan = GroupPlan::new(GroupRoom::new(rt.alloc())?);
-    let routes = [
-        Route {
-            low: 0,
-            high: 1,
-            group: 255,
-        },
-        Route {
-            low: 1,
-            high: 2,
-            group: 255,
-        },
-        Route {
-            low: 2,
-            high: 3,
-            group: 255,
-        },
-    ];
-    if plan.fill_routes(4, &routes) {
-        Ok(plan)
-    } else {
-        Err(anyhow!("the path is no plan"))
-    }
+    let routes = [(0, 1), (1, 2), (2, 3)].map(|(low, high)| Route {
+        low,
+        high,
+        group: None,
+    });
+    plan.fill_routes(4, &routes)?;
+    Ok(plan)
 }
 
 fn refusals_of_offers<P: Plan>(rt: &HostRuntime, floor: &mut Floor<P>) -> anyhow::Result<()> {
@@ -214,8 +171,10 @@ fn readings<P: Plan>(rt: &HostRuntime, floor: &Floor<P>) -> anyhow::Result<()> {
 fn short_list<P: Plan>(rt: &HostRuntime, floor: &Floor<P>) -> anyhow::Result<()> {
     let mut few = [9; 5];
     if let Err(refusal) = floor.stamp(0, &mut few) {
-        let number = refusal.number();
-        println!(rt; "a list of five places: refused {number}, still {few:?}")?;
+        println!(rt;
+            "a list of five places: refused {}, still {few:?}",
+            refusal.number()
+        )?;
     }
     Ok(())
 }
@@ -223,8 +182,7 @@ fn short_list<P: Plan>(rt: &HostRuntime, floor: &Floor<P>) -> anyhow::Result<()>
 fn play(rt: &HostRuntime) -> anyhow::Result<()> {
     let lower = StationPlan::new(3);
     if let Err(refusal) = Join::check(&StationPlan::new(16), &StationPlan::new(16), 0, 0) {
-        let number = refusal.number();
-        println!(rt; "16 stations above 16: refused {number}")?;
+        println!(rt; "16 stations above 16: refused {}", refusal.number())?;
     }
     let mut closed = [false; 32];
     closed[2] = true;

@@ -1,6 +1,5 @@
 -- A question's line, and one more line after those before. Assumes nothing.
-use Rattle.std.proofs.Common.{◌≡◌, ℕ, ◌+◌, ◌^◌, ◌<◌, ◌≤◌, ◌⊎◌, List, [], ◌++◌, length, Ok, Err, Result, refl, ap, subst, inl, inr, ⊎_elim, add-one, arith}
-use Rattle.sheet.specs.declared.page.Page.{Page}
+use Rattle.std.proofs.Common.{◌≡◌, ℕ, ◌+◌, ◌^◌, ◌<◌, ◌≤◌, ◌⊎◌, List, [], ◌++◌, length, Ok, Err, Result, Vec, refl, ap, subst, inl, inr, ⊎_elim, add-one, arith}
 use Rattle.std.proofs.lemmas.List.{length-append}
 use Rattle.std.proofs.lemmas.Bool.{cases_lt}
 use Rattle.refusals.specs.Number.{number}
@@ -16,7 +15,7 @@ use Rattle.lines.specs.Line.{question_line, refused_question_line}
 use Rattle.lines.proofs.Bounds.{question_le, refused_question_le}
 use Rattle.sheet.specs.Sheet.{QuestionLine, refused, related}
 use Rattle.sheet.specs.Steps.{reply_text, QuestionPut, QuestionsPut}
-use Rattle.sheet.proofs.Texts.{added_none, added_more}
+use Rattle.text.specs.Vector.{vector_laws}
 
 -- the line of a relation that is told
 pub line_related : (es : List Entry) (a b : ℕ) (r : Relation) → Ordered es a b (Ok r) → QuestionLine es (a, b) (question_line a b r)
@@ -55,15 +54,15 @@ reply_short a b (Ok r) ah bh = omega (arith, question_le a b r ah bh)
 reply_short a b (Err e) ah bh = omega (arith, refused_question_le a b e ah bh)
 
 -- no question yet
-pub questions_none : {f : Floor GroupPlan} {qs : ℕ → ℕ × ℕ} {out : Page} → QuestionsPut f qs 0 out out
-questions_none {out = out} = record { text = []; added = added_none out; short = omega arith; says = λ cs run. refl }
+pub questions_none : {Z : Type 0} {f : Floor GroupPlan} {qs : ℕ → ℕ × ℕ} {out : Vec ℕ Z} → QuestionsPut f qs 0 out out
+questions_none {out = out} = record { text = []; added = vector_laws.none out; short = omega arith; says = λ cs run. refl }
 
 -- one question more
-pub questions_more : {f : Floor GroupPlan} {qs : ℕ → ℕ × ℕ} {n : ℕ} {q : ℕ × ℕ} {out out' out'' : Page}
+pub questions_more : {Z : Type 0} {f : Floor GroupPlan} {qs : ℕ → ℕ × ℕ} {n : ℕ} {q : ℕ × ℕ} {out out' out'' : Vec ℕ Z}
     → QuestionsPut f qs n out out' → q ≡ qs n → QuestionPut f q out' out'' → QuestionsPut f qs (n + 1) out out''
 questions_more p e r = record {
   text = p.text ++ r.line;
-  added = added_more p.added r.added;
+  added = vector_laws.more _ _ _ _ _ p.added r.added;
   short = omega (arith, length-append p.text r.line);
   says = λ cs run. rw add-one (record { before = p.text; line = r.line; lines = p.says cs run; last = rw e at (r.says cs run); is = refl });
 }

@@ -5,7 +5,7 @@ use Rattle.std.proofs.lemmas.Bool.{cond-true, cond-false, eq-eqb, ne_eqb}
 use Rattle.std.proofs.lemmas.Bool.Decides.{nat_tests}
 use Rattle.plans.specs.Meaning.{Meaning, Entry}
 use Rattle.order.specs.Tally.{tally}
-use Rattle.order.specs.Plain.{Call, State, offer, settle, plain, refusal, accepted}
+use Rattle.order.specs.Plain.{Call, State, offer, settle, plain}
 use Rattle.order.specs.Counts.{IsCount}
 use Rattle.order.proofs.Tally.{tally_none, tally_step}
 use Rattle.grouping.specs.declared.plan.GroupPlan.{GroupPlan}
@@ -16,10 +16,6 @@ use Rattle.book.proofs.Calling.{settled_len}
 use Rattle.book.proofs.Running.{run_shows}
 use Rattle.sheet.specs.Day.{refusal_of, handed}
 use Rattle.sheet.specs.Steps.{meaning, floor_meaning, After}
-
--- the settlement of an accepted offer is accepted
-pub settles : (m : Meaning) (s : State) (g t : ℕ) → refusal m s (offer g t) ≡ 0 → refusal m (accepted s (offer g t)) (settle g t) ≡ 0
-settles m s g t h = grind (arith, nat_tests)
 
 -- what the floor shows is the plain list of its calls
 pub shows : {cs : List Call} {f : Floor GroupPlan} → After cs f → shown f.book ≡ plain (floor_meaning f) cs
@@ -45,4 +41,4 @@ count_most {es = es} c = omega (arith, c.counted c.decided, tally_most (λ x. de
 
 -- a floor has at most 1,000 entries
 pub entries_most : {cs : List Call} {f : Floor GroupPlan} → After cs f → length (entries_of meaning cs f) ≤ 1000
-entries_most {f = f} run = omega (arith, ap (λ (s : State). length s.entries) (shows run), settled_len f.book, f.book.kept.1)
+entries_most {f = f} run = omega (arith, ap (λ (s : State). length s.entries) (shows run), settled_len f.book, f.book.kept.few)

@@ -1,6 +1,5 @@
 -- The printed text is the sheet. Assumes nothing.
-use Rattle.std.proofs.Common.{◌≡◌, ℕ, List, [], ◌++◌, None, Option, ap, ◌∙◌, subst}
-use Rattle.sheet.specs.declared.page.Page.{Page}
+use Rattle.std.proofs.Common.{◌≡◌, ℕ, List, [], ◌++◌, None, Option, vec_items, Vec, ap, ◌∙◌, subst}
 use Rattle.plans.specs.Meaning.{Meaning}
 use Rattle.order.specs.Plain.{plain}
 use Rattle.grouping.specs.declared.plan.GroupPlan.{GroupPlan}
@@ -12,7 +11,6 @@ use Rattle.dayfile.specs.Reading.{file_contents}
 use Rattle.sheet.specs.Day.{plan_of, handover_at, handover_count, question_at, question_count, calls}
 use Rattle.sheet.specs.Sheet.{Lines, AskedLine, DayText, TextBy, IsSheet}
 use Rattle.sheet.specs.Steps.{meaning, floor_meaning, HandoversPut, QuestionsPut}
-use Rattle.sheet.specs.Text.{written}
 use Rattle.sheet.proofs.Texts.{added_alone}
 
 -- the plan that was read is the file's
@@ -21,8 +19,8 @@ unfolding plan_of
 plan_read bs e h = ap meaning e ∙ ap group_meaning h
 
 -- the handovers, then the questions, in an empty buffer
-pub day_text : (bs : List ℕ) {f one : Floor GroupPlan} {v w u : Page} → written v ≡ [] → floor_meaning f ≡ plan_of bs
-    → HandoversPut f (handover_at bs) (handover_count bs) v one w → QuestionsPut one (question_at bs) (question_count bs) w u → DayText bs (written u)
+pub day_text : (bs : List ℕ) {Z : Type 0} {f one : Floor GroupPlan} {v w u : Vec ℕ Z} → vec_items v ≡ [] → floor_meaning f ≡ plan_of bs
+    → HandoversPut f (handover_at bs) (handover_count bs) v one w → QuestionsPut one (question_at bs) (question_count bs) w u → DayText bs (vec_items u)
 day_text bs empty m p q = record {
   handovers = p.text;
   questions = q.text;

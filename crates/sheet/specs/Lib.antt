@@ -1,4 +1,3 @@
-pub mod Text
 pub mod Day
 pub mod Sheet
 pub mod Steps

@@ -10,7 +10,8 @@ use Rattle.order.specs.Counts.{IsCount}
 use Rattle.dayfile.specs.declared.refusal.FileRefusal.{FileRefusal}
 use Rattle.dayfile.specs.Check.{file_verdict}
 use Rattle.dayfile.specs.Verdict.{told}
-use Rattle.lines.specs.Line.{refused_file_line, handover_line, refused_handover_line, question_line, refused_question_line}
+use Rattle.text.specs.Line.{refused_file_line}
+use Rattle.lines.specs.Line.{handover_line, refused_handover_line, question_line, refused_question_line}
 use Rattle.sheet.specs.Day.{plan_of, handover_count, handover_at, question_count, question_at, refusal_of, handed, calls}
 
 -- the counts of the entry i, one for each dial: how many entries turn the dial and are this entry or before it

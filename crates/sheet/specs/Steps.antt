@@ -1,6 +1,5 @@
 -- The steps in which the sheet is printed: what each adds to the text, and where it leaves the floor.
-use Rattle.std.specs.Prelude.{◌≡◌, ℕ, ◌*◌, ◌<◌, ◌≤◌, cond, List, length, Some, None, Ok, Err, Option, Result, nat_lt, slice_index}
-use Rattle.sheet.specs.declared.page.Page.{Page}
+use Rattle.std.specs.Prelude.{◌≡◌, ℕ, ◌*◌, ◌<◌, ◌≤◌, cond, List, length, Some, None, Ok, Err, Option, Result, Vec, nat_eq, slice_index}
 use Rattle.refusals.specs.Number.{number}
 use Rattle.refusals.specs.declared.Refusal.{Refusal}
 use Rattle.order.specs.declared.kinds.Relation.{Relation}
@@ -13,10 +12,11 @@ use Rattle.grouping.specs.Plan.{contents, group_meaning}
 use Rattle.book.specs.declared.floor.Floor.{Floor}
 use Rattle.book.specs.History.{Run, entries_of}
 use Rattle.dayfile.specs.declared.file.DayFile.{DayFile}
-use Rattle.sheet.specs.Text.{Added}
-use Rattle.dayfile.specs.Check.{file_verdict}
-use Rattle.dayfile.specs.Records.{if_accepted}
-use Rattle.sheet.specs.Day.{handover_count, handover_at, question_count, question_at, handed, calls}
+use Rattle.dayfile.specs.declared.records.Record.{Record}
+use Rattle.dayfile.specs.declared.records.Record.TheVariants.{Handover, Question}
+use Rattle.dayfile.specs.Layout.{word}
+use Rattle.text.specs.Vector.{Added}
+use Rattle.sheet.specs.Day.{handed, calls}
 use Rattle.sheet.specs.Sheet.{HandoverLine, QuestionLine, Lines, HandedLine, AskedLine}
 
 -- what a group plan means
@@ -39,17 +39,15 @@ Comes f = (cs : List Call) × After cs f
 abbrev pub bytes_of : DayFile → List ℕ
 bytes_of file = file.bytes.now
 
--- value i of n values, or none
-abbrev pub one_of : {X : Type 0} → ℕ → (ℕ → X) → ℕ → Option X
-one_of n f i = cond (nat_lt i n) (Some (f i)) None
+-- the handover that a record tells: two bytes
+abbrev pub handover_in : Record → Option Entry
+handover_in (Handover b) = cond (nat_eq (length b.now) 2) (Some (slice_index b.now 0, slice_index b.now 1)) None
+handover_in _ = None
 
--- handover i of the file, or none past the last; none of a refused file
-abbrev pub handover_if : List ℕ → ℕ → Option Entry
-handover_if bs i = if_accepted (file_verdict bs) (one_of (handover_count bs) (handover_at bs) i)
-
--- question i of the file, or none past the last; none of a refused file
-abbrev pub question_if : List ℕ → ℕ → Option (ℕ × ℕ)
-question_if bs i = if_accepted (file_verdict bs) (one_of (question_count bs) (question_at bs) i)
+-- the question that a record tells: two words
+abbrev pub question_in : Record → Option (ℕ × ℕ)
+question_in (Question b) = cond (nat_eq (length b.now) 4) (Some (word b.now 0, word b.now 2)) None
+question_in _ = None
 
 -- the line of a question about the handovers a and b, by the reply to it
 abbrev pub reply_text : ℕ → ℕ → Result Relation Refusal → List ℕ
@@ -62,7 +60,7 @@ CountsIn f i counts =
     (cs : List Call) → After cs f → (k : ℕ) → k < (floor_meaning f).dials → IsCount (floor_meaning f) (entries_of meaning cs f) k i (slice_index counts k)
 
 -- a handover on the floor f: its line is added
-pub record HandoverPut (f : Floor GroupPlan) (h : Entry) (out : Page) (f' : Floor GroupPlan) (out' : Page) : Type 0 where
+pub record HandoverPut {Z : Type 0} (f : Floor GroupPlan) (h : Entry) (out : Vec ℕ Z) (f' : Floor GroupPlan) (out' : Vec ℕ Z) : Type 0 where
   pub line : List ℕ
   pub added : Added out line out'
   pub short : length line ≤ 206
@@ -71,7 +69,7 @@ pub record HandoverPut (f : Floor GroupPlan) (h : Entry) (out : Page) (f' : Floo
   pub says : (cs : List Call) → After cs f → HandoverLine (floor_meaning f) cs h line
 
 -- the first n handovers hs on a new floor f: their lines are added
-pub record HandoversPut (f : Floor GroupPlan) (hs : ℕ → Entry) (n : ℕ) (out : Page) (f' : Floor GroupPlan) (out' : Page) : Type 0 where
+pub record HandoversPut {Z : Type 0} (f : Floor GroupPlan) (hs : ℕ → Entry) (n : ℕ) (out : Vec ℕ Z) (f' : Floor GroupPlan) (out' : Vec ℕ Z) : Type 0 where
   pub text : List ℕ
   pub added : Added out text out'
   pub short : length text ≤ 206 * n
@@ -80,14 +78,14 @@ pub record HandoversPut (f : Floor GroupPlan) (hs : ℕ → Entry) (n : ℕ) (ou
   pub says : Lines (HandedLine (floor_meaning f) hs) n text
 
 -- a question about the floor f: its line is added
-pub record QuestionPut (f : Floor GroupPlan) (q : ℕ × ℕ) (out out' : Page) : Type 0 where
+pub record QuestionPut {Z : Type 0} (f : Floor GroupPlan) (q : ℕ × ℕ) (out out' : Vec ℕ Z) : Type 0 where
   pub line : List ℕ
   pub added : Added out line out'
   pub short : length line ≤ 24
   pub says : (cs : List Call) → After cs f → QuestionLine (entries_of meaning cs f) q line
 
 -- the first n questions qs about the floor f: their lines are added
-pub record QuestionsPut (f : Floor GroupPlan) (qs : ℕ → ℕ × ℕ) (n : ℕ) (out out' : Page) : Type 0 where
+pub record QuestionsPut {Z : Type 0} (f : Floor GroupPlan) (qs : ℕ → ℕ × ℕ) (n : ℕ) (out out' : Vec ℕ Z) : Type 0 where
   pub text : List ℕ
   pub added : Added out text out'
   pub short : length text ≤ 24 * n

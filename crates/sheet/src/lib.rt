@@ -2,8 +2,6 @@
 #![tactic(auto)]
 
 mod handovers;
-pub mod page;
 mod questions;
 pub mod room;
 pub mod sheet;
-mod text;

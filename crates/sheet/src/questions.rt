@@ -2,12 +2,10 @@
 ghost use Rattle.std.specs.Prelude.{◌≡◌, ◌*◌, None};
 ghost use Rattle.lines.specs.Line.{line_text};
 ghost use Rattle.dayfile.specs.Check.{file_verdict};
-ghost use Rattle.sheet.specs.Text.{Room};
+ghost use Rattle.text.specs.Vector.{Room};
 ghost use Rattle.sheet.specs.Day.{question_at, question_count};
-ghost use Rattle.sheet.specs.Steps.{QuestionPut, QuestionsPut, bytes_of, question_if, reply_text};
+ghost use Rattle.sheet.specs.Steps.{QuestionPut, QuestionsPut, bytes_of, question_in, reply_text};
 
-use crate::page::Page;
-use crate::text::put_line;
 use book::floor::Floor;
 use dayfile::file::DayFile;
 use dayfile::records::{Kind, Record};
@@ -16,21 +14,21 @@ use lines::line::Line;
 use order::kinds::Relation;
 use refusals::Refusal;
 
-// The two numbers of question `index`, or none past the last.
-fn question_at(file: &DayFile, index: usize) -> Option<(u16, u16)>
-    ensures { result ≡ question_if (bytes_of file.now) index }
+// The two numbers, of the record of a question.
+fn numbers_in(question: Record) -> Option<(u16, u16)>
+    ensures { result ≡ question_in question.entry }
 {
-    match file.record(Kind::Questions, index)? {
-        Record::Question(pair) => {
-            let first = u16::from_le_bytes([pair[0], pair[1]]);
-            let second = u16::from_le_bytes([pair[2], pair[3]]);
+    match question {
+        Record::Question(&[a, b, c, d]) => {
+            let first = u16::from_le_bytes([a, b]);
+            let second = u16::from_le_bytes([c, d]);
             Some((first, second))
         }
         _ => None,
     }
 }
 
-// The line of a question and the reply to it.
+// The line of a question and the reply to it. None of the types is of this crate, so it is no `From`.
 fn reply_line<'a>(first: u16, second: u16, reply: Result<Relation, Refusal>) -> Line<'a>
     ensures { line_text result ≡ reply_text first second reply }
 {
@@ -49,25 +47,22 @@ fn reply_line<'a>(first: u16, second: u16, reply: Result<Relation, Refusal>) -> 
 }
 
 // Asks how one handover stands to another, and adds the line of the reply.
-fn put_question(out: &mut Page, floor: &Floor<GroupPlan>, first: u16, second: u16)
+fn put_question(out: &mut Vec<u8>, floor: &Floor<GroupPlan>, first: u16, second: u16)
     requires room { Room out.old 24 }
     ensures { QuestionPut floor.now (first, second) out.old out.new }
 {
-    put_line(
-        out,
-        reply_line(first, second, floor.relation(first, second)),
-    );
+    reply_line(first, second, floor.relation(first, second)).put(out);
 }
 
 // Asks the questions of a file, in their order, and adds their lines.
-pub(crate) fn put_questions(out: &mut Page, floor: &Floor<GroupPlan>, file: &DayFile)
+pub(crate) fn put_questions(out: &mut Vec<u8>, floor: &Floor<GroupPlan>, file: &DayFile)
     requires room { Room out.old (24 * 1000) }
     requires accepted { file_verdict (bytes_of file.now) ≡ None }
     ensures { QuestionsPut floor.now (question_at (bytes_of file.now)) (question_count (bytes_of file.now)) out.old out.new }
 {
-    let mut index = 0;
-    while let Some((first, second)) = question_at(file, index) {
-        put_question(out, floor, first, second);
-        index += 1;
+    for record in file.records(Kind::Questions) {
+        if let Some((first, second)) = numbers_in(record) {
+            put_question(out, floor, first, second);
+        }
     }
 }

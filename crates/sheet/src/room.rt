@@ -1,7 +1,6 @@
 // The room of a sheet, which alone asks for memory.
-ghost use Rattle.std.specs.Prelude.{◌≡◌, ◌≤◌, IfOk, vec_len};
+ghost use Rattle.std.specs.Prelude.{◌≡◌, ◌≤◌, [], IfOk, vec_capacity, vec_items};
 
-use crate::page::Page;
 use book::room::BookRoom;
 use grouping::plan::GroupPlan;
 use grouping::room::GroupRoom;
@@ -15,20 +14,19 @@ pub(crate) const TEXT_ROOM: usize = 230_000;
 pub struct SheetRoom {
     pub(crate) plan: GroupPlan,
     pub(crate) book: BookRoom,
-    pub(crate) page: Page,
-    ghost roomy: { 230000 ≤ vec_len page.bytes },
-    ghost empty: { page.used ≡ 0 },
+    pub(crate) text: Vec<u8>,
+    ghost roomy: { 230000 ≤ vec_capacity text },
+    ghost empty: { vec_items text ≡ [] },
 }
 
 impl SheetRoom {
     // Reserves the room, and does nothing else.
     pub fn new(heap: Global) -> Result<SheetRoom, AllocError>
-        ensures { IfOk result (λ m. (230000 ≤ vec_len m.page.bytes) × (m.page.used ≡ 0)) }
+        ensures { IfOk result (λ m. (230000 ≤ vec_capacity m.text) × (vec_items m.text ≡ [])) }
     {
         let plan = GroupPlan::new(GroupRoom::new(heap)?);
         let book = BookRoom::new(heap)?;
-        let bytes = vec![in heap; 0; TEXT_ROOM]?;
-        let page = Page { bytes, used: 0 };
-        Ok(SheetRoom { plan, book, page })
+        let text = Vec::with_capacity(heap, TEXT_ROOM)?;
+        Ok(SheetRoom { plan, book, text })
     }
 }

@@ -15,25 +15,34 @@ const SAMPLE: [u8; 65] = [
     0, 4, 0,
 ];
 
-// Whether a record is of this kind, by its number, and has these bytes.
-fn is_record(record: Option<Record>, kind: u8, bytes: &[u8]) -> bool {
-    match record {
-        Some(Record::Route(b)) => kind == 0 && b == bytes,
-        Some(Record::Group(b)) => kind == 1 && b == bytes,
-        Some(Record::Handover(b)) => kind == 2 && b == bytes,
-        Some(Record::Question(b)) => kind == 3 && b == bytes,
-        None => false,
-    }
-}
-
 #[test]
 fn records_hold_their_own_bytes(rt: HostRuntime) {
     let file = DayFile::open(&SAMPLE);
     assert!(rt; file.refusal().is_none());
-    assert!(rt; is_record(file.record(Kind::Routes, 2), 0, &[2, 3, 1]));
-    assert!(rt; is_record(file.record(Kind::Groups, 1), 1, &[0, 3, 0, 0]));
-    assert!(rt; is_record(file.record(Kind::Handovers, 4), 2, &[0, 1]));
-    assert!(rt; is_record(file.record(Kind::Questions, 0), 3, &[0, 0, 1, 0]));
+    assert!(rt;
+        matches!(
+            file.record(Kind::Routes, 2),
+            Some(Record::Route(&[2, 3, 1]))
+        )
+    );
+    assert!(rt;
+        matches!(
+            file.record(Kind::Groups, 1),
+            Some(Record::Group(&[0, 3, 0, 0]))
+        )
+    );
+    assert!(rt;
+        matches!(
+            file.record(Kind::Handovers, 4),
+            Some(Record::Handover(&[0, 1]))
+        )
+    );
+    assert!(rt;
+        matches!(
+            file.record(Kind::Questions, 0),
+            Some(Record::Question(&[0, 0, 1, 0]))
+        )
+    );
     assert!(rt; file.record(Kind::Routes, 3).is_none(), "past the last");
     assert!(rt; file.record(Kind::Groups, 2).is_none());
     assert!(rt; file.record(Kind::Handovers, 5).is_none());

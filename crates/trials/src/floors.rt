@@ -7,11 +7,11 @@ use plans::station::StationPlan;
 use refusals::Refusal;
 use std::test::Fail;
 
-// Withdraws the local offer after a foreign one has spent its pair: the refusal's number, or 0.
+// Withdraws the local offer after a foreign one has spent its pair: the foreign one's number, and the local one's reply.
 fn foreign_settles(
     floor: &mut Floor<StationPlan>,
     other: &mut Floor<StationPlan>,
-) -> Result<(u16, u8), Refusal> {
+) -> Result<(u16, Result<(), Refusal>), Refusal> {
     let local = floor.offer(0, 1)?;
     let foreign = match other.offer(0, 1) {
         Ok(offer) => offer,
@@ -21,17 +21,12 @@ fn foreign_settles(
         }
     };
     let settled = floor.settle(foreign);
-    let spent = match floor.withdraw(local) {
-        Ok(()) => 0,
-        Err(refusal) => refusal.number(),
-    };
-    match settled {
-        Ok(number) => Ok((number, spent)),
-        Err((refusal, back)) => {
-            let _ = other.withdraw(back);
-            Err(refusal)
-        }
-    }
+    let spent = floor.withdraw(local);
+    let number = settled.map_err(|(refusal, back)| {
+        let _ = other.withdraw(back);
+        refusal
+    })?;
+    Ok((number, spent))
 }
 
 #[test]
@@ -40,7 +35,7 @@ fn matching_offer_of_another_floor_settles_here(rt: HostRuntime) -> Result<(), F
     let mut other = Floor::new(BookRoom::new(rt.alloc())?, StationPlan::new(2));
     match foreign_settles(&mut floor, &mut other) {
         Ok((number, spent)) => assert!(rt;
-            number == 0 && spent == 14,
+            number == 0 && spent.map_err(Refusal::number) == Err(14),
             "the local offer then gets 14"
         ),
         Err(_) => return Err(Fail::new("a matching offer was refused")),
@@ -51,41 +46,33 @@ fn matching_offer_of_another_floor_settles_here(rt: HostRuntime) -> Result<(), F
         "nothing was settled there"
     );
     assert!(rt;
-        offer_number(&mut other, 0, 1) == 12,
+        withdrawn(&mut other, 0, 1) == Err(12),
         "its pair still waits there"
     );
     Ok(())
 }
 
-// The number by which an offer is refused; an accepted one is withdrawn, and gives 0.
-fn offer_number<P: Plan>(floor: &mut Floor<P>, giver: u8, taker: u8) -> u8 {
-    match floor.offer(giver, taker) {
-        Ok(offer) => {
-            let _ = floor.withdraw(offer);
-            0
-        }
-        Err(refusal) => refusal.number(),
-    }
+// Offers a handover and withdraws it; a refusal by its number.
+fn withdrawn<P: Plan>(floor: &mut Floor<P>, giver: u8, taker: u8) -> Result<(), u8> {
+    floor
+        .offer(giver, taker)
+        .and_then(|offer| floor.withdraw(offer))
+        .map_err(Refusal::number)
 }
 
-// What an offer of stations 4 and 5 of a large floor gets on a small one: the refusal's number, or 0.
-fn carried_over(large: &mut Floor<StationPlan>, small: &mut Floor<StationPlan>) -> u8 {
-    let Ok(offer) = large.offer(4, 5) else {
-        return 255;
-    };
-    match small.withdraw(offer) {
-        Ok(()) => 0,
-        Err(refusal) => refusal.number(),
-    }
+// What an offer of stations 4 and 5 of a large floor gets on a small one.
+fn carried_over(large: &mut Floor<StationPlan>, small: &mut Floor<StationPlan>) -> Result<(), u8> {
+    let offer = large.offer(4, 5).map_err(Refusal::number)?;
+    small.withdraw(offer).map_err(Refusal::number)
 }
 
 #[test]
 fn numbers_of_no_station_are_not_pending(rt: HostRuntime) -> Result<(), Fail> {
     let mut large = Floor::new(BookRoom::new(rt.alloc())?, StationPlan::new(6));
     let mut small = Floor::new(BookRoom::new(rt.alloc())?, StationPlan::new(2));
-    assert!(rt; carried_over(&mut large, &mut small) == 14);
+    assert!(rt; carried_over(&mut large, &mut small) == Err(14));
     assert!(rt;
-        offer_number(&mut large, 4, 5) == 12,
+        withdrawn(&mut large, 4, 5) == Err(12),
         "the withdrawal elsewhere spent the offer, not the pair"
     );
     Ok(())
@@ -96,7 +83,7 @@ fn floor_without_dials_refuses_every_stamp(rt: HostRuntime) -> Result<(), Fail> 
     let mut floor = Floor::new(BookRoom::new(rt.alloc())?, StationPlan::new(0));
     let mut none: [u16; 0] = [];
     assert!(rt; matches!(floor.stamp(0, &mut none), Err(Refusal::NotSettled)));
-    assert!(rt; offer_number(&mut floor, 0, 1) == 9);
+    assert!(rt; withdrawn(&mut floor, 0, 1) == Err(9));
     assert!(rt; matches!(floor.relation(0, 0), Err(Refusal::NotSettled)));
     Ok(())
 }
@@ -104,32 +91,23 @@ fn floor_without_dials_refuses_every_stamp(rt: HostRuntime) -> Result<(), Fail> 
 #[test]
 fn refusals_come_in_their_order(rt: HostRuntime) -> Result<(), Fail> {
     let mut floor = Floor::new(BookRoom::new(rt.alloc())?, StationPlan::new(2));
-    assert!(rt; offer_number(&mut floor, 2, 2) == 9, "9 before 10");
-    assert!(rt; offer_number(&mut floor, 1, 1) == 10, "10 before 11");
-    assert!(rt; offer_number(&mut floor, 0, 1) == 0);
+    assert!(rt; withdrawn(&mut floor, 2, 2) == Err(9), "9 before 10");
+    assert!(rt; withdrawn(&mut floor, 1, 1) == Err(10), "10 before 11");
+    assert!(rt; withdrawn(&mut floor, 0, 1) == Ok(()));
     assert!(rt;
-        offer_number(&mut floor, 1, 0) == 0,
+        withdrawn(&mut floor, 1, 0) == Ok(()),
         "withdrawn, so both are free again"
     );
     assert!(rt; matches!(floor.relation(0, 0), Err(Refusal::NotSettled)));
     Ok(())
 }
 
-// Offers and settles; the relation call then knows the handover.
-fn hand(floor: &mut Floor<StationPlan>, giver: u8, taker: u8) -> bool {
-    match floor.offer(giver, taker) {
-        Ok(offer) => match floor.settle(offer) {
-            Ok(_) => true,
-            Err((_, back)) => floor.withdraw(back).is_ok(),
-        },
-        Err(_) => false,
-    }
-}
-
 #[test]
 fn station_plan_stamps_both_stations(rt: HostRuntime) -> Result<(), Fail> {
     let mut floor = Floor::new(BookRoom::new(rt.alloc())?, StationPlan::new(4));
-    assert!(rt; hand(&mut floor, 0, 1) && hand(&mut floor, 1, 2) && hand(&mut floor, 3, 0));
+    assert!(rt; floor.hand_over(0, 1).is_ok());
+    assert!(rt; floor.hand_over(1, 2).is_ok());
+    assert!(rt; floor.hand_over(3, 0).is_ok());
     let mut counts = [0; 4];
     assert!(rt; floor.stamp(0, &mut counts).is_ok() && counts == [1, 1, 0, 0]);
     assert!(rt; floor.stamp(1, &mut counts).is_ok() && counts == [1, 2, 1, 0]);

@@ -75,23 +75,26 @@ fn join_has_one_lift(rt: HostRuntime) {
     );
 }
 
-// What the check of a join of two station plans replies: 0, or the refusal's number.
-fn fit(n: u8, m: u8, p: u8, q: u8) -> u8 {
-    match Join::check(&StationPlan::new(n), &StationPlan::new(m), p, q) {
-        Ok(()) => 0,
-        Err(refusal) => refusal.number(),
-    }
+// What the check of a join of two station plans replies, a refusal by its number.
+fn fit(n: u8, m: u8, p: u8, q: u8) -> Result<(), u8> {
+    Join::check(&StationPlan::new(n), &StationPlan::new(m), p, q).map_err(Refusal::number)
 }
 
 #[test]
 fn join_fits_up_to_the_limits(rt: HostRuntime) {
-    assert!(rt; fit(16, 16, 0, 0) == 17, "32 stations, but 33 dials");
-    assert!(rt; fit(16, 15, 15, 14) == 0, "31 stations, 32 dials");
-    assert!(rt; fit(16, 15, 16, 0) == 17, "the first end is no station");
-    assert!(rt; fit(16, 15, 0, 15) == 17, "the second end is no station");
-    assert!(rt; fit(0, 4, 0, 0) == 17, "an empty half");
-    assert!(rt; fit(4, 0, 0, 0) == 17);
-    assert!(rt; fit(1, 1, 0, 0) == 0);
+    assert!(rt; fit(16, 16, 0, 0) == Err(17), "32 stations, but 33 dials");
+    assert!(rt; fit(16, 15, 15, 14) == Ok(()), "31 stations, 32 dials");
+    assert!(rt;
+        fit(16, 15, 16, 0) == Err(17),
+        "the first end is no station"
+    );
+    assert!(rt;
+        fit(16, 15, 0, 15) == Err(17),
+        "the second end is no station"
+    );
+    assert!(rt; fit(0, 4, 0, 0) == Err(17), "an empty half");
+    assert!(rt; fit(4, 0, 0, 0) == Err(17));
+    assert!(rt; fit(1, 1, 0, 0) == Ok(()));
     let unfit = Join::new(StationPlan::new(16), StationPlan::new(16), 0, 0);
     assert!(rt;
         unfit.stations() == 0 && unfit.dials() == 0,

@@ -13,24 +13,12 @@ use std::test::Fail;
 fn pile_of_all_kinds(rt: HostRuntime) -> Result<(), Fail> {
     // below: two stations, dials 0 and 1; above: a path 0-1-2-3 in two stars, its end 3 closed
     let mut path = GroupPlan::new(GroupRoom::new(rt.alloc())?);
-    let routes = [
-        Route {
-            low: 0,
-            high: 1,
-            group: 0,
-        },
-        Route {
-            low: 1,
-            high: 2,
-            group: 0,
-        },
-        Route {
-            low: 2,
-            high: 3,
-            group: 0,
-        },
-    ];
-    assert!(rt; path.fill_routes(4, &routes));
+    let routes = [(0, 1), (1, 2), (2, 3)].map(|(low, high)| Route {
+        low,
+        high,
+        group: Some(0),
+    });
+    assert!(rt; path.fill_routes(4, &routes).is_ok());
     let mut end = [false; 32];
     end[3] = true;
     let above = Closing::new(path, end);

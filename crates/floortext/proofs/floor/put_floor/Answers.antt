@@ -1,6 +1,6 @@
 use Rattle.std.proofs.Common.{arith}
 use Rattle.floortext.specs.Floor.{floor_text}
-use Rattle.floortext.proofs.Texts.{added_more}
+use Rattle.text.specs.Vector.{vector_laws}
 use Rattle.floortext.proofs.Floors.{length_floor}
 use Rattle.floortext.proofs.floor.put_floor.Goals as goal
 
@@ -12,4 +12,4 @@ put_group_lines-requires c = omega (arith, length_floor c.args.stations c.args.r
 
 pub returns : goal.returns
 unfolding floor_text
-returns c = added_more _ _ c.put_head_lines.ensures c.put_group_lines.ensures
+returns c = vector_laws.more _ _ _ _ _ c.put_head_lines.ensures c.put_group_lines.ensures

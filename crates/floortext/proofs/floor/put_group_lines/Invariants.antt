@@ -1,7 +1,8 @@
 use Rattle.std.proofs.Common.{drop}
 use Rattle.floortext.specs.Floor.{group_lines}
-use Rattle.floortext.proofs.Texts.{Lacks}
+use Rattle.text.specs.Vector.{Room, Added}
+use Rattle.text.proofs.Sinks.{Lacks}
 use Rattle.floortext.proofs.floor.put_group_lines.Given as goal
 
 abbrev pub invariant-loop-k : goal.invariant-loop-k
-invariant-loop-k l = Lacks l.initial.out (group_lines l.routes 0 l.groups) l.out (group_lines l.routes l.k (drop l.k l.groups))
+invariant-loop-k l = Lacks Room Added l.initial.out (group_lines l.routes 0 l.groups) l.out (group_lines l.routes l.k (drop l.k l.groups))

@@ -1,27 +1,31 @@
-use Rattle.std.proofs.Common.{◌<◌, length, refl, arith}
+use Rattle.std.proofs.Common.{◌<◌, length, sym, ◌∙◌, arith}
 use Rattle.std.specs.List.{flat_map}
 use Rattle.std.proofs.lemmas.List.{at_drop_all}
+use Rattle.text.specs.Vector.{vector_laws}
+use Rattle.text.proofs.Sinks.{lacks_all, lacks_room, lacks_next, lacks_as, lacks_none}
 use Rattle.floortext.specs.Floor.{member_text}
-use Rattle.floortext.proofs.Texts.{lacks_all, lacks_room, lacks_more, lacks_as, lacks_none}
 use Rattle.floortext.proofs.Floors.{members_in, members_out}
 use Rattle.floortext.proofs.floor.put_members.Goals as goal
-use Rattle.floortext.proofs.floor.put_members.Goals.{then-route-k, else-route-k}
+use Rattle.floortext.proofs.floor.put_members.Goals.{then-is_in, else-is_in}
 
 pub loop-route-init : goal.loop-route-init
-loop-route-init c = lacks_all _ _
+loop-route-init c = lacks_all vector_laws c.requires
 
 pub put_route-requires : goal.put_route-requires
 put_route-requires c =
-    lacks_room _ _ c.loop-route.invariant (members_in c.args.k c.args.routes.now c.loop-route.route-index (omega arith) c.if-route-k.true) c.requires
+    let is = sym c.is_in.ensures ∙ c.if-is_in.true in
+    lacks_room vector_laws _ _ (lacks_as c.loop-route.invariant (members_in c.args.k c.args.routes.now c.loop-route.route-index (omega arith) is))
 
 pub loop-route-preserved : goal.loop-route-preserved
 loop-route-preserved c =
     let at : c.loop-route.route-index < length c.args.routes.now = omega arith in
-    elim c.if-route-k.branch [
-      | then-route-k w ↦
-          lacks_as (lacks_more _ _ c.loop-route.invariant (members_in c.args.k c.args.routes.now c.loop-route.route-index at w.if-route-k.true) w.put_route.ensures) refl w.out-is
-      | else-route-k w ↦ lacks_as c.loop-route.invariant (members_out c.args.k c.args.routes.now c.loop-route.route-index at w.if-route-k.false) w.out-is
+    let test = sym c.is_in.ensures in
+    elim c.if-is_in.branch [
+      | then-is_in w ↦
+          rw w.out-is (lacks_next vector_laws _ _ (lacks_as c.loop-route.invariant (members_in c.args.k c.args.routes.now c.loop-route.route-index at (test ∙ w.if-is_in.true))) w.put_route.ensures)
+      | else-is_in w ↦ rw w.out-is (lacks_as c.loop-route.invariant (members_out c.args.k c.args.routes.now c.loop-route.route-index at (test ∙ w.if-is_in.false)))
     ]
 
 pub returns : goal.returns
-returns c = lacks_none c.loop-route.invariant (at_drop_all (flat_map (member_text c.args.k)) c.args.routes.now c.loop-route.route-index (omega arith))
+returns c =
+    lacks_none vector_laws c.loop-route.invariant (at_drop_all (flat_map (member_text c.args.k)) c.args.routes.now c.loop-route.route-index (omega arith))

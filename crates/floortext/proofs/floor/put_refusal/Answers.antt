@@ -1,18 +1,20 @@
-use Rattle.std.proofs.Common.{arith}
-use Rattle.floortext.specs.Floor.{refusal_text}
-use Rattle.floortext.proofs.Texts.{added_more}
-use Rattle.floortext.proofs.Floors.{length_refusal}
+use Rattle.std.proofs.Common.{◌≡◌, ℕ, ◌+◌, [], ◌∷◌, length, arith}
+use Rattle.std.proofs.lemmas.List.{length-append}
+use Rattle.refusals.specs.Number.{number}
+use Rattle.text.specs.Line.{parted, refused_fields, refused_file_line}
+use Rattle.text.specs.Vector.{vector_laws}
 use Rattle.floortext.proofs.floor.put_refusal.Goals as goal
 
-pub put_labelled-requires : goal.put_labelled-requires
-put_labelled-requires c = omega (arith, length_refusal c.args.number c.args.place)
+length_refused : (n place : ℕ) → length (refused_file_line n place) ≡ length (parted 32 (refused_fields n place)) + 1
+unfolding refused_file_line
+length_refused n place = length-append (parted 32 (refused_fields n place)) (10 ∷ [])
 
-pub put_labelled-requires-2 : goal.put_labelled-requires-2
-put_labelled-requires-2 c = omega (arith, length_refusal c.args.number c.args.place)
+pub put_refused-requires : goal.put_refused-requires
+put_refused-requires c = omega (arith, length_refused (number c.args.refusal) c.args.place)
 
-pub put_text-requires : goal.put_text-requires
-put_text-requires c = omega (arith, length_refusal c.args.number c.args.place)
+pub put_byte-requires : goal.put_byte-requires
+put_byte-requires c = omega (arith, length_refused (number c.args.refusal) c.args.place)
 
 pub returns : goal.returns
-unfolding refusal_text
-returns c = added_more _ _ c.put_labelled.ensures (added_more _ _ c.put_labelled-2.ensures c.put_text.ensures)
+unfolding refused_file_line
+returns c = vector_laws.more _ _ _ _ _ c.put_refused.ensures c.put_byte.ensures

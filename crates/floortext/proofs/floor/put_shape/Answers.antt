@@ -1,6 +1,6 @@
-use Rattle.std.proofs.Common.{length, sym, ap, arith}
+use Rattle.std.proofs.Common.{ℕ, List, length, sym, ap, subst, arith}
 use Rattle.floortext.specs.Floor.{shape_text}
-use Rattle.floortext.proofs.Texts.{added_more, added_as}
+use Rattle.text.specs.Vector.{Added, vector_laws}
 use Rattle.floortext.proofs.Floors.{length_triangle}
 use Rattle.floortext.proofs.floor.put_shape.Goals as goal
 
@@ -19,10 +19,10 @@ put_labelled-requires-in-Triangle-3 c = omega (arith, length_triangle c.in-Trian
 
 pub returns-in-Star : goal.returns-in-Star
 unfolding shape_text
-returns-in-Star c = added_as c.put_labelled.ensures (ap shape_text (sym c.in-Star.is))
+returns-in-Star c = subst (λ (t : List ℕ). Added c.args.out.now t c.put_labelled.new.out) (ap shape_text (sym c.in-Star.is)) c.put_labelled.ensures
 
 pub returns-in-Triangle : goal.returns-in-Triangle
 unfolding shape_text
 returns-in-Triangle c =
-    added_as (added_more _ _ c.put_labelled-in-Triangle.ensures (added_more _ _ c.put_labelled-in-Triangle-2.ensures c.put_labelled-in-Triangle-3.ensures))
-    (ap shape_text (sym c.in-Triangle.is))
+    subst (λ (t : List ℕ). Added c.args.out.now t c.put_labelled-in-Triangle-3.new.out) (ap shape_text (sym c.in-Triangle.is))
+    (vector_laws.more _ _ _ _ _ c.put_labelled-in-Triangle.ensures (vector_laws.more _ _ _ _ _ c.put_labelled-in-Triangle-2.ensures c.put_labelled-in-Triangle-3.ensures))

@@ -4,7 +4,6 @@ use Rattle.std.specs.List.{AllByRecursion}
 use Rattle.std.proofs.lemmas.Bool.Decides.{nat_tests}
 use Rattle.std.proofs.ByRecursion.{All-get_or, All-set}
 use Rattle.std.proofs.lemmas.List.{take_all, drop_all}
-use Rattle.std.proofs.lemmas.Bool.{eq-eqb, ne_eqb}
 use Rattle.routes.specs.Order.{no_route}
 use Rattle.routes.specs.Groups.{fits}
 use Rattle.regrouping.specs.Table.{remaining, degree}
@@ -12,15 +11,16 @@ use Rattle.regrouping.specs.Steps.{Inside, in_group}
 use Rattle.regrouping.proofs.Counts.{count_out}
 use Rattle.regrouping.proofs.Marks.{taken_turn, passed_turn}
 use Rattle.regrouping.proofs.Tables.{ends_live}
+use Rattle.grouping.proofs.Drafts.{none_is}
 use Rattle.grouping.proofs.steps.take_routes.Goals as goal
-use Rattle.grouping.proofs.steps.take_routes.Goals.{then-r+then-fits, else-r, else-r-via-then-r+else-fits, else-r-via-else-r}
+use Rattle.grouping.proofs.steps.take_routes.Goals.{then-is_none+then-fits, else-is_none, else-is_none-via-then-is_none+else-fits, else-is_none-via-else-is_none}
 
 pub one_less-requires : goal.one_less-requires
 one_less-requires c =
     let t = c.loop-r.routes in
     let l : c.loop-r.r-index < length t = omega (arith, c.loop-r-test.true, c.loop-r.auto.routes) in
     let h = All-get_or (Inside 32) t c.loop-r.r-index no_route l c.loop-r.invariant.2 in
-    let p = ends_live t c.loop-r.r-index l (eq-eqb _ _ c.if-r.true) in
+    let p = ends_live t c.loop-r.r-index l (none_is _ _ c.is_none.ensures ∙ c.if-is_none.true) in
     record { inside = h; some = (omega (arith, p.0, c.loop-r.invariant.1 (get_or t c.loop-r.r-index no_route).low (omega (arith, h.0, h.1))), omega (arith, p.1, c.loop-r.invariant.1 (get_or t c.loop-r.r-index no_route).high h.1)) }
 
 passed_left : (x y : Bool) → x ≡ false → (x && y) ≡ false
@@ -35,28 +35,28 @@ loop-r-preserved c =
     let s = c.args.routes.now in
     let i = c.loop-r.r-index in
     let r = get_or t i no_route in
-    let g = c.args.g in
+    let g = c.args.number in
     let l : i < length t = omega (arith, c.loop-r-test.true, c.loop-r.auto.routes) in
     let h = All-get_or (Inside 32) t i no_route l c.loop-r.invariant.2 in
-    let turn = passed_turn c.args.k g s t i c.loop-r-test.true c.loop-r.auto.routes c.loop-r.invariant.0 in
-    elim c.if-r.branch [
-      | then-r+then-fits w ↦ (
-        w.routes-is ∙ taken_turn c.args.k g s t i c.loop-r-test.true c.loop-r.auto.routes c.loop-r.invariant.0 (eq-eqb _ _ w.if-r.true) (sym w.fits.ensures ∙ w.if-fits.true),
-        (λ x b. ap (λ d. get_or d x 0) w.degrees-is ∙ (count_out t i x g _ _ l c.requires.number (eq-eqb _ _ w.if-r.true) (c.loop-r.invariant.1 x b) (w.one_less.ensures x) ∙ ap (λ y. degree y x) (sym w.routes-is))),
+    let turn = passed_turn c.args.group g s t i c.loop-r-test.true c.loop-r.auto.routes c.loop-r.invariant.0 in
+    elim c.if-is_none.branch [
+      | then-is_none+then-fits w ↦ (
+        w.routes-is ∙ taken_turn c.args.group g s t i c.loop-r-test.true c.loop-r.auto.routes c.loop-r.invariant.0 (none_is _ _ c.is_none.ensures ∙ w.if-is_none.true) (sym w.fits.ensures ∙ w.if-fits.true),
+        (λ x b. ap (λ d. get_or d.counts x 0) w.degrees-is ∙ (count_out t i x g _ _ l (none_is _ _ c.is_none.ensures ∙ w.if-is_none.true) (c.loop-r.invariant.1 x b) (w.one_less.ensures x) ∙ ap (λ y. degree y x) (sym w.routes-is))),
         subst (AllByRecursion (Inside 32)) (sym w.routes-is) (All-set (Inside 32) t i (in_group g r) h c.loop-r.invariant.2),
       )
-      | else-r w ↦
-          elim w.else-r.branch [
-            | else-r-via-then-r+else-fits v ↦
-                (let e : c.if-r.routes ≡ t = w.routes-is ∙ (v.routes-is ∙ set-get_or t i no_route) in (
-                  e ∙ turn (passed_right (remaining r) (fits c.args.k r) (sym v.fits.ensures ∙ v.if-fits.false)),
-                  (λ x b. ap (λ d. get_or d x 0) w.degrees-is ∙ (c.loop-r.invariant.1 x b ∙ ap (λ y. degree y x) (sym e))),
+      | else-is_none w ↦
+          elim w.else-is_none.branch [
+            | else-is_none-via-then-is_none+else-fits v ↦
+                (let e : c.if-is_none.routes ≡ t = w.routes-is ∙ (v.routes-is ∙ set-get_or t i no_route) in (
+                  e ∙ turn (passed_right (remaining r) (fits c.args.group r) (sym v.fits.ensures ∙ v.if-fits.false)),
+                  (λ x b. ap (λ d. get_or d.counts x 0) w.degrees-is ∙ (c.loop-r.invariant.1 x b ∙ ap (λ y. degree y x) (sym e))),
                   subst (AllByRecursion (Inside 32)) (sym e) c.loop-r.invariant.2,
                 ))
-            | else-r-via-else-r v ↦
-                (let e : c.if-r.routes ≡ t = w.routes-is ∙ (v.routes-is ∙ set-get_or t i no_route) in (
-                  e ∙ turn (passed_left (remaining r) (fits c.args.k r) (ne_eqb _ _ v.if-r.false)),
-                  (λ x b. ap (λ d. get_or d x 0) w.degrees-is ∙ (c.loop-r.invariant.1 x b ∙ ap (λ y. degree y x) (sym e))),
+            | else-is_none-via-else-is_none v ↦
+                (let e : c.if-is_none.routes ≡ t = w.routes-is ∙ (v.routes-is ∙ set-get_or t i no_route) in (
+                  e ∙ turn (passed_left (remaining r) (fits c.args.group r) (none_is _ _ c.is_none.ensures ∙ v.if-is_none.false)),
+                  (λ x b. ap (λ d. get_or d.counts x 0) w.degrees-is ∙ (c.loop-r.invariant.1 x b ∙ ap (λ y. degree y x) (sym e))),
                   subst (AllByRecursion (Inside 32)) (sym e) c.loop-r.invariant.2,
                 ))
           ]

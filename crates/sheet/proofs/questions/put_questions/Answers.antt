@@ -1,34 +1,38 @@
-use Rattle.std.proofs.Common.{◌≡◌, arith}
-use Rattle.dayfile.specs.Check.{file_verdict}
-use Rattle.sheet.specs.Day.{question_at, question_count}
-use Rattle.sheet.specs.Steps.{bytes_of}
-use Rattle.sheet.proofs.Records.{read_question, one_gone}
+use Rattle.std.proofs.Common.{◌≡◌, sym, ◌∙◌, arith, rules}
+use Rattle.std.proofs.lemmas.List.{length_push}
+use Rattle.dayfile.specs.declared.records.Kind.TheVariants.{Questions}
+use Rattle.dayfile.specs.Records.{records_from, records_left}
+use Rattle.sheet.proofs.Records.{next_question, all_questions}
 use Rattle.sheet.proofs.Asking.{questions_none, questions_more}
 use Rattle.sheet.proofs.questions.put_questions.Goals as goal
 
-pub loop-first-init : goal.loop-first-init
-loop-first-init c = (omega arith, questions_none)
+pub loop-record-init : goal.loop-record-init
+loop-record-init c = record { can_next = search rules; is_finite = search rules; put = questions_none }
 
 pub put_question-requires : goal.put_question-requires
 put_question-requires c =
-    let r = read_question c.args.file.now c.requires.accepted c.in-Some.ensures in
+    let all : records_left c.into_iter-record-iterator.result ≡ records_from c.args.file.now.bytes Questions 0 = cc in
+    let next = next_question c.args.file.now c.requires.accepted c.into_iter-record-iterator.result c.loop-record.record-iterator c.next.new.self c.loop-record.yielded c.loop-record.yielded_by all c.in-Some.is c.next.ensures.steps in
     record {
-      room = omega (arith, r.2, c.loop-first.invariant.1.short, c.loop-first.invariant.1.added.len, c.loop-first.invariant.1.added.size);
+      room = omega (arith, next.1, c.loop-record.invariant.put.short, c.loop-record.invariant.put.added.len, c.loop-record.invariant.put.added.capacity);
     }
 
-pub overflow_add-index : goal.overflow_add-index
-overflow_add-index c =
-    let r = read_question c.args.file.now c.requires.accepted c.in-Some.ensures in
-    omega (arith, r.2)
+pub loop-record-preserved : goal.loop-record-preserved
+loop-record-preserved c =
+    let all : records_left c.into_iter-record-iterator.result ≡ records_from c.args.file.now.bytes Questions 0 = cc in
+    let next = next_question c.args.file.now c.requires.accepted c.into_iter-record-iterator.result c.loop-record.record-iterator c.next.new.self c.loop-record.yielded c.loop-record.yielded_by all c.in-Some.is c.next.ensures.steps in
+    absurd (c.in_default.not-Some _ (c.numbers_in.ensures ∙ next.2))
 
-pub loop-first-preserved : goal.loop-first-preserved
-loop-first-preserved c =
-    let r = read_question c.args.file.now c.requires.accepted c.in-Some.ensures in
-    (omega (arith, r.0), questions_more c.loop-first.invariant.1 r.1 c.put_question.ensures)
+pub loop-record-preserved-in-Some-numbers_in : goal.loop-record-preserved-in-Some-numbers_in
+loop-record-preserved-in-Some-numbers_in c =
+    let all : records_left c.into_iter-record-iterator.result ≡ records_from c.args.file.now.bytes Questions 0 = cc in
+    let next = next_question c.args.file.now c.requires.accepted c.into_iter-record-iterator.result c.loop-record.record-iterator c.next.new.self c.loop-record.yielded c.loop-record.yielded_by all c.in-Some.is c.next.ensures.steps in
+    let told = sym c.in-Some-numbers_in.is ∙ c.numbers_in.ensures ∙ next.2 in
+    let more = questions_more c.loop-record.invariant.put (cc told) c.put_question.ensures in
+    record { can_next = search rules; is_finite = search rules; put = rw length_push more }
 
 pub returns : goal.returns
 returns c =
-    let bs = bytes_of c.args.file.now in
-    let past = one_gone (file_verdict bs) (question_count bs) (question_at bs) c.loop-first.index c.requires.accepted c.in_default.ensures in
-    let all : c.loop-first.index ≡ question_count bs = omega (arith, c.loop-first.invariant.0) in
-    simp all at c.loop-first.invariant.1
+    let all : records_left c.into_iter-record-iterator.result ≡ records_from c.args.file.now.bytes Questions 0 = cc in
+    let end = all_questions c.args.file.now c.requires.accepted c.into_iter-record-iterator.result c.loop-record.record-iterator c.next.new.self c.loop-record.yielded c.loop-record.yielded_by all c.in-None.is c.next.ensures.steps in
+    simp end at c.loop-record.invariant.put

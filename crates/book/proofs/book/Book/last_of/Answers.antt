@@ -1,24 +1,22 @@
-use Rattle.std.proofs.Common.{◌≡◌, ◌-◌, ◌<◌, true, vec_len, sym, ap, ◌∙◌, arith}
-use Rattle.std.proofs.lemmas.Bool.{eq-eqb, or_left, or_right}
+use Rattle.std.proofs.Common.{rules, ◌≡◌, ℕ, ◌<◌, true, false, None, vec_items, vec_len, ◌∙◌}
 use Rattle.plans.specs.Meaning.{has}
-use Rattle.book.specs.declared.kinds.Row.{Row}
-use Rattle.book.specs.Shown.{ends}
-use Rattle.book.proofs.Reading.{row_is, last_found, last_none}
+use Rattle.book.specs.Shown.{ends, row}
+use Rattle.book.proofs.Reading.{last_found, last_none}
 use Rattle.book.proofs.book.Book.last_of.Goals as goal
-use Rattle.book.proofs.book.Book.last_of.Goals.{then-row-station-via-then-row-station, then-row-station-via-else-row-station+then-row-station-2}
 
-pub returns-then-row-station : goal.returns-then-row-station
-returns-then-row-station c =
+pub returns-in_err-i : goal.returns-in_err-i
+returns-in_err-i c =
     let b = c.args.self.now in
-    let s = c.args.station in
-    let x = c.index-row.result.now in
-    let l : c.loop-i.i - 1 < vec_len b.rows = omega arith in
-    let h : has s (ends x) ≡ true =
-    elim c.then-row-station.branch [
-      | then-row-station-via-then-row-station w ↦ or_left _ _ (eq-eqb _ _ w.if-row-station.true)
-      | then-row-station-via-else-row-station+then-row-station-2 w ↦ or_right _ _ (eq-eqb _ _ w.if-row-station-2.true)
-    ] in
-    last_found b s (c.loop-i.i - 1) l (ap (λ (r : Row). has s (ends r)) (sym (row_is b _ x l c.index-row.ensures)) ∙ h) (λ j lo hi. c.loop-i.invariant j (omega arith) hi)
+    let none : c.from_residual.result ≡ None = search rules in
+    let f : (j : ℕ) → j < vec_len b.rows → has c.args.station (ends (row (vec_items b.rows) j)) ≡ false = search rules in
+    none ∙ last_none b c.args.station f
 
 pub returns : goal.returns
-returns c = last_none c.args.self.now c.args.station (λ j l. c.loop-i.invariant j (omega arith) l)
+returns c =
+    let b = c.args.self.now in
+    let s = c.args.station in
+    let i = c.in_ok-i.i in
+    let l : i < vec_len b.rows = search rules in
+    let h : has s (ends (row (vec_items b.rows) i)) ≡ true = search rules in
+    let above : (j : ℕ) → i < j → j < vec_len b.rows → has s (ends (row (vec_items b.rows) j)) ≡ false = search rules in
+    last_found b s i l h above

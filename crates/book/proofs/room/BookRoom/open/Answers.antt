@@ -8,6 +8,6 @@ invariant_of-result c =
     let v = c.args.self.rows in
     record {
       kept =
-          subst (λ n. Kept (vec_capacity v) n c.fresh.result 0) (sym (v.ok.0 ∙ ap length c.args.self.empty))
-          (subst (λ ss. Kept (vec_capacity v) 0 ss 0) (sym c.fresh.ensures) (kept_new (vec_capacity v) c.args.self.reserved));
+          subst (λ n. Kept (vec_capacity v) n c.new.result.list 0) (sym (v.ok.0 ∙ ap length c.args.self.empty))
+          (subst (λ ss. Kept (vec_capacity v) 0 ss 0) (sym c.new.ensures) (kept_new (vec_capacity v) c.args.self.reserved));
     }

@@ -1,4 +1,5 @@
 use Rattle.std.proofs.Common.{length, ap, ◌∙◌, arith, rules}
+use Rattle.refusals.specs.Number.{number}
 use Rattle.grouping.specs.Plan.{contents}
 use Rattle.dayfile.specs.Check.{file_verdict}
 use Rattle.dayfile.specs.Reading.{file_contents}
@@ -12,7 +13,7 @@ put_floor-requires c =
     omega (arith, contents_le p, ap length (lent_text p c.stations.ensures c.routes.ensures c.groups.ensures.groups), ap length c.groups.ensures.groups)
 
 pub put_refusal-requires : goal.put_refusal-requires
-put_refusal-requires c = omega (arith, refusal_le c.number.result c.in-Err.e.place (omega arith) (search rules))
+put_refusal-requires c = omega (arith, refusal_le (number c.in-Err.e.refusal) c.in-Err.e.place (grind arith) (search rules))
 
 pub returns-in-Ok : goal.returns-in-Ok
 returns-in-Ok c =
@@ -31,5 +32,5 @@ returns-in-Err c =
     let refused = c.in-Err.ensures.verdict ∙ ap (λ b. file_verdict b.now) c.open.ensures in
     record {
       verdict = refused;
-      text = printed_refusal c.args.bytes.now c.in-Err.e c.number.result (added_alone c.put_refusal.ensures c.clear.ensures.items) c.number.ensures.exact refused;
+      text = printed_refusal c.args.bytes.now c.in-Err.e (added_alone c.put_refusal.ensures c.clear.ensures.items) refused;
     }

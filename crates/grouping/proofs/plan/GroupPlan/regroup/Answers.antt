@@ -1,30 +1,24 @@
-use Rattle.std.proofs.Common.{vec_items, refl, ap, arith}
+use Rattle.std.proofs.Common.{vec_items, ap, ◌∙◌}
 use Rattle.routes.proofs.Decompositions.{decomposition_from}
-use Rattle.regrouping.proofs.Regroups.{came_back}
 use Rattle.regrouping.proofs.Finish.{rules_finish}
 use Rattle.grouping.specs.Plan.{given}
+use Rattle.grouping.proofs.Drafts.{regroups_draft}
 use Rattle.grouping.proofs.plan.GroupPlan.regroup.Goals as goal
 
 pub invariant_of-self : goal.invariant_of-self
-invariant_of-self c =
-    let p = c.args.self.now in
-    let q = came_back p.stations (vec_items p.routes) p.few.0 p.few.1 p.ordered p.routes.len _ c.regroup_routes.new.routes p.routes.items (vec_items c.regroup_routes.new.groups) c.regroup_routes.ensures.written c.deref_mut.ensures.value p.routes.ok.0 in
-    record {
-      few = (p.few.0, q.short, q.few);
-      room = (p.room.0, omega (arith, c.regroup_routes.ensures.capacity, p.room.1));
-      ordered = q.ordered;
-      decomposed = q.split;
-    }
+invariant_of-self c = record { decomposed = (regroups_draft c.args.self.now.draft c.regroup.new.self c.regroup.ensures).split }
 
 pub returns : goal.returns
 returns c =
-    let p = c.args.self.now in
-    let q = came_back p.stations (vec_items p.routes) p.few.0 p.few.1 p.ordered p.routes.len _ c.regroup_routes.new.routes p.routes.items (vec_items c.regroup_routes.new.groups) c.regroup_routes.ensures.written c.deref_mut.ensures.value p.routes.ok.0 in
+    let d = c.args.self.now.draft in
+    let e = c.regroup.new.self in
+    let m = c.regroup.ensures in
+    let q = regroups_draft d e m in
     record {
-      built = ap (λ w. given p.stations w.table w.groups) q.written;
-      stations = refl;
+      built = ap (λ n. given n (vec_items e.routes) (vec_items e.groups)) m.stations ∙ ap (λ w. given d.stations w.table w.groups) m.drawn;
+      stations = m.stations;
       same = q.same;
       decomposition = decomposition_from _ _ q.split;
       few = q.few;
-      finish = rules_finish p.stations (vec_items p.routes) p.few.0 p.few.1 p.ordered;
+      finish = rules_finish d.stations (vec_items d.routes) d.few.0 d.few.1 d.ordered;
     }

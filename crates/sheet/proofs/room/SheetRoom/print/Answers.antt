@@ -1,34 +1,31 @@
-use Rattle.std.proofs.Common.{ℕ, List, length, sym, ap, ◌∙◌, subst, arith, Bor, rules}
+use Rattle.std.proofs.Common.{ℕ, List, length, vec_items, sym, ap, ◌∙◌, subst, arith, Bor, rules}
 use Rattle.lines.proofs.Bounds.{refused_file_le}
 use Rattle.dayfile.specs.Check.{file_verdict}
-use Rattle.sheet.specs.Text.{written}
 use Rattle.sheet.specs.Sheet.{IsSheet}
 use Rattle.sheet.specs.Steps.{bytes_of}
 use Rattle.sheet.proofs.Records.{few_handovers}
 use Rattle.sheet.proofs.Printing.{plan_read, day_text, sheet_day}
-use Rattle.sheet.proofs.Texts.{written_none}
 use Rattle.sheet.proofs.room.SheetRoom.print.Goals as goal
 
-pub put_line-requires : goal.put_line-requires
-put_line-requires c =
-    let e = ap length c.refused_file.ensures in
+pub put-requires : goal.put-requires
+put-requires c =
     let le = refused_file_le c.in-Err.e.refusal c.in-Err.e.place (search rules) in
-    omega arith
+    omega (arith, ap length c.args.self.empty)
 
 pub put_questions-requires : goal.put_questions-requires
 put_questions-requires c =
     let accepted = sym c.in_default.ensures.verdict in
     let few = few_handovers c.open-file.result accepted in
-    record { room = omega (arith, c.put_handovers.ensures.short, c.put_handovers.ensures.added.len, c.put_handovers.ensures.added.size); accepted = accepted }
+    record { room = omega (arith, ap length c.args.self.empty, c.put_handovers.ensures.short, c.put_handovers.ensures.added.len, c.put_handovers.ensures.added.capacity); accepted = accepted }
 
 pub returns : goal.returns
 returns c =
     let file = c.open-file.result in
     let v = c.in_default.ensures.verdict in
     let text =
-    day_text (bytes_of file) (written_none c.args.self.page c.args.self.empty) (plan_read (bytes_of file) c.new-floor.ensures.opened.plan c.in_default.ensures.floor)
+    day_text (bytes_of file) c.args.self.empty (plan_read (bytes_of file) c.new-floor.ensures.opened.plan c.in_default.ensures.floor)
     c.put_handovers.ensures c.put_questions.ensures in
     record {
-      sheet = subst (λ (b : Bor (List ℕ)). IsSheet b.now (written c.put_questions.new.out)) c.open-file.ensures (sheet_day (bytes_of file) _ v text);
+      sheet = subst (λ (b : Bor (List ℕ)). IsSheet b.now (vec_items c.put_questions.new.out)) c.open-file.ensures (sheet_day (bytes_of file) _ v text);
       refusal = v ∙ ap (λ (b : Bor (List ℕ)). file_verdict b.now) c.open-file.ensures;
     }

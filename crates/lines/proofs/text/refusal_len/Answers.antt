@@ -1,6 +1,0 @@
-use Rattle.std.proofs.Common.{rules}
-use Rattle.lines.proofs.Parts.{length_part, length-refusal_part}
-use Rattle.lines.proofs.text.refusal_len.Goals as goal
-
-pub returns : goal.returns
-returns c = search (rules, length_part, length-refusal_part)

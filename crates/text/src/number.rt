@@ -1,0 +1,29 @@
+// Numbers in decimals, and what stands before them.
+ghost use Rattle.std.specs.Prelude.{length, decimal};
+ghost use Rattle.text.specs.Labelled.{labelled};
+
+use crate::sink::Sink;
+
+// Adds a number.
+// Digit by digit, since the library's writer of digits needs a buffer of its own, and the day sheet
+// would then take more instructions than plain Rust.
+pub fn put_number<S: Sink>(out: &mut S, n: u16)
+    requires { S.has_room out.old (length (decimal n)) }
+    ensures { S.adds out.old (decimal n) out.new }
+{
+    if n < 10 {
+        out.put_byte(b'0' + n as u8);
+    } else {
+        put_number(out, n / 10);
+        out.put_byte(b'0' + (n % 10) as u8);
+    }
+}
+
+// Adds a word and a number.
+pub fn put_labelled<S: Sink>(out: &mut S, word: &[u8], n: u16)
+    requires { S.has_room out.old (length (labelled word.now n)) }
+    ensures { S.adds out.old (labelled word.now n) out.new }
+{
+    out.put(word);
+    put_number(out, n);
+}
