@@ -8,7 +8,7 @@ use std::io::{Read, Write};
 use std::process::ExitCode;
 
 // One more than the longest file, so that a longer one is seen to be too long without being kept.
-const MOST: u64 = MOST_BYTES as u64 + 1;
+const MOST: usize = MOST_BYTES + 1;
 
 // Says on standard error why a file is refused.
 fn explain(rt: &HostRuntime, e: FileRefusal) {
@@ -22,8 +22,8 @@ fn explain(rt: &HostRuntime, e: FileRefusal) {
 
 fn run(rt: &HostRuntime) -> anyhow::Result<()> {
     let room = SheetRoom::new(rt.alloc())?;
-    let mut bytes = Vec::new(rt.alloc());
-    rt.stdin().take(MOST).read_to_end(&mut bytes)?;
+    let mut bytes = Vec::with_capacity(rt.alloc(), MOST)?;
+    rt.stdin().take(MOST as u64).read_to_end(&mut bytes)?;
     let sheet = room.print(&bytes);
     rt.stdout().write_all(sheet.text())?;
     if let Some(e) = sheet.refusal {

@@ -9,7 +9,7 @@ use std::io::{Read, Write};
 use std::process::ExitCode;
 
 // One more than the longest file, so that a longer one is seen to be too long without being kept.
-const MOST: u64 = MOST_BYTES as u64 + 1;
+const MOST: usize = MOST_BYTES + 1;
 
 // What is wrong with a refused file, and what to do: the words that this program has always printed,
 // which are not those of `Refusal::advice`.
@@ -44,8 +44,8 @@ fn explain(rt: &HostRuntime, e: FileRefusal) {
 
 fn run(rt: &HostRuntime) -> anyhow::Result<()> {
     let mut room = FloorRoom::new(rt.alloc())?;
-    let mut bytes = Vec::new(rt.alloc());
-    rt.stdin().take(MOST).read_to_end(&mut bytes)?;
+    let mut bytes = Vec::with_capacity(rt.alloc(), MOST)?;
+    rt.stdin().take(MOST as u64).read_to_end(&mut bytes)?;
     let verdict = room.print(&bytes);
     rt.stdout().write_all(room.text())?;
     if let Err(e) = verdict {
