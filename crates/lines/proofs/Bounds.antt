@@ -1,6 +1,6 @@
 -- How long a line of the day sheet can be.
-use Rattle.std.proofs.Common.{ℕ, suc, ◌-◌, ◌*◌, ◌^◌, ◌<◌, ◌≤◌, List, [], ◌∷◌, map, length, get_or, decimal, arith}
-use Rattle.std.proofs.lemmas.Fmt.{length-decimal-le}
+use Rattle.std.proofs.Common.{ℕ, suc, ◌+◌, ◌-◌, ◌*◌, ◌^◌, ◌<◌, ◌≤◌, List, [], ◌∷◌, map, length, get_or, decimal, arith}
+use Rattle.std.proofs.lemmas.Fmt.{length-decimal-le, decimal_nonempty}
 use Rattle.std.proofs.lemmas.List.{length-append}
 use Rattle.std.specs.List.{flat_map}
 use Rattle.refusals.specs.Number.{number}
@@ -42,10 +42,13 @@ pub refused_file_le : (e : Refusal) (place : ℕ) → place < 2 ^ 16 → length 
 unfolding refused_file_line
 refused_file_le e place h = let n = refusal_digits e in let p = five place h in simp length-append (omega arith)
 
+pub handover_most : (k g t : ℕ) (xs : List ℕ) → k < 2 ^ 16 → g < 2 ^ 8 → t < 2 ^ 8 → Small xs → length (handover_line k g t xs) ≤ 15 + (6 * length xs - 1)
+unfolding handover_line
+handover_most k g t xs kh gh th small = let a = five k kh in let b = three g gh in let c = three t th in let d = commas_le xs small in simp length-append (omega arith)
+
 -- at most 32 counts
 pub handover_le : (k g t : ℕ) (xs : List ℕ) → k < 2 ^ 16 → g < 2 ^ 8 → t < 2 ^ 8 → Small xs → length xs ≤ 32 → length (handover_line k g t xs) ≤ 206
-unfolding handover_line
-handover_le k g t xs kh gh th small most = let a = five k kh in let b = three g gh in let c = three t th in let d = commas_le xs small in simp length-append (omega arith)
+handover_le k g t xs kh gh th small most = omega (arith, handover_most k g t xs kh gh th small)
 
 pub refused_handover_le : (g t : ℕ) (e : Refusal) → g < 2 ^ 8 → t < 2 ^ 8 → length (refused_handover_line g t (number e)) ≤ 21
 unfolding refused_handover_line
@@ -58,3 +61,21 @@ question_le a b r ah bh = let x = five a ah in let y = five b bh in let w = word
 pub refused_question_le : (a b : ℕ) (e : Refusal) → a < 2 ^ 16 → b < 2 ^ 16 → length (refused_question_line a b (number e)) ≤ 23
 unfolding refused_question_line
 refused_question_le a b e ah bh = let x = five a ah in let y = five b bh in let n = refusal_digits e in simp length-append (omega arith)
+
+-- At least so many bytes.
+
+-- a number takes at least two bytes, with the comma before it
+others_least : (xs : List ℕ) → Small xs → 2 * length xs ≤ length (flat_map (λ u. 44 ∷ u) (map decimal xs))
+others_least [] h = omega arith
+others_least (x ∷ xs) h =
+    let first = decimal_nonempty x (omega (arith, h 0 (omega arith))) in let rest = others_least xs (λ i l. h (suc i) (omega arith)) in simp length-append (omega arith)
+
+commas_least : (xs : List ℕ) → Small xs → 2 * length xs ≤ length (commas xs) + 1
+unfolding commas
+commas_least [] h = omega arith
+commas_least (x ∷ xs) h =
+    let first = decimal_nonempty x (omega (arith, h 0 (omega arith))) in let rest = others_least xs (λ i l. h (suc i) (omega arith)) in simp length-append (omega arith)
+
+pub handover_least : (k g t : ℕ) (xs : List ℕ) → Small xs → 2 * length xs ≤ length (handover_line k g t xs)
+unfolding handover_line
+handover_least k g t xs small = let d = commas_least xs small in simp length-append (omega arith)

@@ -1,11 +1,12 @@
 // One line of the day sheet, and the calls that add it to a text or write it.
-ghost use Rattle.std.specs.Prelude.{◌≡◌, length};
+ghost use Rattle.std.specs.Prelude.{◌≡◌, length, nat_le};
+ghost use Rattle.text.specs.Laws.{Takes};
 ghost use Rattle.text.specs.Line.{parted};
 ghost use Rattle.lines.specs.Line.{line_text};
 ghost use Rattle.lines.specs.Parts.{fields};
 ghost use Rattle.lines.specs.Text.{text_after, text_reply};
 
-use crate::parts::{put_counts, put_stations};
+use crate::parts::{handover_fits, put_counts, put_stations};
 use order::kinds::Relation;
 use refusals::Refusal;
 use text::cursor::Cursor;
@@ -51,9 +52,7 @@ impl<'a> Line<'a> {
         ensures reply { result ≡ text_reply out.old (line_text self.entry) }
         ensures after { out.new ≡ text_after out.old (line_text self.entry) }
     {
-        let mut measure = Measure::new(out.len());
-        self.put(&mut measure);
-        if measure.left.is_none() {
+        if !self.fits(out.len()) {
             return Err(Refusal::TooShort);
         }
         let mut cursor = Cursor::new(out);
@@ -61,19 +60,38 @@ impl<'a> Line<'a> {
         Ok(cursor.written().len())
     }
 
+    // Is the line at most `room` bytes long? Only counts can make a line long; they are measured
+    // where their number does not tell.
+    fn fits(self, room: usize) -> bool
+        ensures { result ≡ nat_le (length (line_text self.entry)) room }
+    {
+        if let Line::Handover {
+            number,
+            giver,
+            taker,
+            counts,
+        } = self
+        {
+            if let Some(fits) = handover_fits(number, giver, taker, counts, room) {
+                return fits;
+            }
+        }
+        let mut measure = Measure::new(room);
+        self.put(&mut measure);
+        measure.left.is_some()
+    }
+
     // Adds the line, where there is room for it.
     pub fn put<S: Sink>(self, out: &mut S)
-        requires { S.has_room out.old (length (line_text self)) }
-        ensures { S.adds out.old (line_text self.entry) out.new }
+        ensures { Takes S.has_room S.adds out.old (line_text self.entry) out.new }
     {
         self.put_fields(out);
         out.put(b"\n");
     }
 
-    // Adds the fields of the line, with a space between each two.
+    // Adds the fields of the line, with a space between each two, where there is room for them.
     fn put_fields<S: Sink>(self, out: &mut S)
-        requires { S.has_room out.old (length (parted 32 (fields self))) }
-        ensures { S.adds out.old (parted 32 (fields self.entry)) out.new }
+        ensures { Takes S.has_room S.adds out.old (parted 32 (fields self.entry)) out.new }
     {
         match self {
             Line::RefusedFile { refusal, place } => put_refused(out, refusal, place),

@@ -1,8 +1,7 @@
 -- One text after another, from the laws of what they are added to.
-use Rattle.std.proofs.Common.{◌≡◌, ℕ, List, [], ◌∷◌, ◌++◌, length, refl, subst, arith}
-use Rattle.std.specs.List.{concat}
+use Rattle.std.proofs.Common.{◌≡◌, ℕ, List, [], ◌++◌, length, sym, subst, arith}
 use Rattle.std.proofs.lemmas.List.{length-append}
-use Rattle.text.specs.Laws.{SinkLaws}
+use Rattle.text.specs.Laws.{SinkLaws, Takes}
 
 -- of the whole text, added to x, the value y lacks the rest, and has room for it
 pub record Lacks {X : Type 0} (has_room : X → ℕ → Type 0) (adds : X → List ℕ → X → Type 0) (x : X) (whole : List ℕ) (y : X) (rest : List ℕ) : Type 0 where
@@ -35,22 +34,19 @@ pub lacks_none : {X : Type 0} {has_room : X → ℕ → Type 0} {adds : X → Li
     {x y : X} {whole rest : List ℕ} → Lacks has_room adds x whole y rest → rest ≡ [] → adds x whole y
 lacks_none laws {y = y} l e = (lacks_as l e).ends y (laws.none y)
 
--- the rest by its parts, which are added one by one
-pub record Owes {X : Type 0} (has_room : X → ℕ → Type 0) (adds : X → List ℕ → X → Type 0) (x : X) (whole : List ℕ) (y : X) (parts : List (List ℕ)) : Type 0 where
-  pub lacks : Lacks has_room adds x whole y (concat parts)
+-- nothing takes no room
+pub takes_none : {X : Type 0} {has_room : X → ℕ → Type 0} {adds : X → List ℕ → X → Type 0} (laws : SinkLaws has_room adds) (x : X) → Takes has_room adds x [] x
+takes_none laws x = λ r. laws.none x
 
-pub owes_all : {X : Type 0} {has_room : X → ℕ → Type 0} {adds : X → List ℕ → X → Type 0} (laws : SinkLaws has_room adds)
-    {x : X} {whole : List ℕ} (parts : List (List ℕ)) → whole ≡ concat parts → has_room x (length whole) → Owes has_room adds x whole x parts
-owes_all laws parts e r = record { lacks = lacks_as (lacks_all laws r) e }
+-- two texts, one after the other, where there is room for both
+pub takes_more : {X : Type 0} {has_room : X → ℕ → Type 0} {adds : X → List ℕ → X → Type 0} (laws : SinkLaws has_room adds)
+    {x y z : X} {s t : List ℕ} → Takes has_room adds x s y → Takes has_room adds y t z → Takes has_room adds x (s ++ t) z
+takes_more laws {x = x} {y = y} {z = z} {s = s} {t = t} a b = λ r.
+    let all = lacks_all laws r in
+    let first = a (lacks_room laws s t all) in
+    laws.more x y z s t first (b (lacks_next laws s t all first).room)
 
-pub owes_room : {X : Type 0} {has_room : X → ℕ → Type 0} {adds : X → List ℕ → X → Type 0} (laws : SinkLaws has_room adds)
-    {x y : X} {whole part : List ℕ} {parts : List (List ℕ)} → Owes has_room adds x whole y (part ∷ parts) → has_room y (length part)
-owes_room laws {part = part} {parts = parts} o = lacks_room laws part (concat parts) o.lacks
-
-pub owes_next : {X : Type 0} {has_room : X → ℕ → Type 0} {adds : X → List ℕ → X → Type 0} (laws : SinkLaws has_room adds)
-    {x y z : X} {whole part : List ℕ} {parts : List (List ℕ)} → Owes has_room adds x whole y (part ∷ parts) → adds y part z → Owes has_room adds x whole z parts
-owes_next laws {part = part} {parts = parts} o a = record { lacks = lacks_next laws part (concat parts) o.lacks a }
-
-pub owes_none : {X : Type 0} {has_room : X → ℕ → Type 0} {adds : X → List ℕ → X → Type 0} (laws : SinkLaws has_room adds)
-    {x y : X} {whole : List ℕ} → Owes has_room adds x whole y [] → adds x whole y
-owes_none laws o = lacks_none laws o.lacks refl
+-- a text that is the same under another name
+pub takes_as : {X : Type 0} {has_room : X → ℕ → Type 0} {adds : X → List ℕ → X → Type 0} (laws : SinkLaws has_room adds)
+    {x y : X} {s t : List ℕ} → t ≡ s → Takes has_room adds x s y → Takes has_room adds x t y
+takes_as {has_room} {adds} laws {x = x} {y = y} e a = subst (λ (u : List ℕ). Takes has_room adds x u y) (sym e) a

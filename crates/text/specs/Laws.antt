@@ -6,3 +6,7 @@ pub record SinkLaws {X : Type 0} (has_room : X → ℕ → Type 0) (adds : X →
   pub none : (x : X) → adds x [] x
   pub more : (x y z : X) (s t : List ℕ) → adds x s y → adds y t z → adds x (s ++ t) z
   pub room : (x y : X) (t : List ℕ) (m n : ℕ) → adds x t y → has_room x n → length t + m ≤ n → has_room y m
+
+-- the text was added, if there was room for it
+abbrev pub Takes : {X : Type 0} → (X → ℕ → Type 0) → (X → List ℕ → X → Type 0) → X → List ℕ → X → Type 0
+Takes has_room adds before text after = has_room before (length text) → adds before text after

@@ -8,11 +8,11 @@ use Rattle.text.specs.Laws.{SinkLaws}
 abbrev pub Room : {Z : Type 0} → Vec ℕ Z → ℕ → Type 0
 Room out n = vec_len out + n ≤ vec_capacity out
 
--- the text was added at the vector's end, and its room did not shrink
+-- the text was added at the vector's end, and its capacity stayed
 pub record Added {Z : Type 0} (before : Vec ℕ Z) (text : List ℕ) (after : Vec ℕ Z) : Type 0 where
   pub items : vec_items after ≡ vec_items before ++ text
   pub len : vec_len after ≡ vec_len before + length text
-  pub capacity : vec_capacity before ≤ vec_capacity after
+  pub capacity : vec_capacity after ≡ vec_capacity before
 
 pub vector_laws : {Z : Type 0} → SinkLaws {X = Vec ℕ Z} Room Added
 vector_laws = record {

@@ -36,15 +36,21 @@ impl<'a> Sink for Cursor<'a> {
 
     ghost adds = { Wrote };
 
+    // A buffer that is full stays as it is.
     fn put_byte(&mut self, byte: u8) {
-        self.out[self.at] = byte;
-        self.at += 1;
+        if self.at < self.out.len() {
+            self.out[self.at] = byte;
+            self.at += 1;
+        }
     }
 
+    // A buffer with less room stays as it is.
     fn put(&mut self, text: &[u8]) {
-        let end = self.at + text.len();
-        self.out[self.at..end].copy_from_slice(text);
-        self.at = end;
+        if text.len() <= self.out.len() - self.at {
+            let end = self.at + text.len();
+            self.out[self.at..end].copy_from_slice(text);
+            self.at = end;
+        }
     }
 
     ghost laws = { cursor_laws };

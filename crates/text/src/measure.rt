@@ -4,7 +4,8 @@ ghost use Rattle.text.specs.Measure.{Endless, Leaves, measure_laws};
 
 use crate::sink::Sink;
 
-// The room that is left, or none where the text is too long for it. Any text can be measured.
+// The room that is left, or none where the text is too long for it. Any text can be measured, so that
+// there is room for each.
 #[derive(Clone, Copy)]
 pub struct Measure {
     pub left: Option<usize>,

@@ -1,15 +1,15 @@
 // Numbers in decimals, and what stands before them.
-ghost use Rattle.std.specs.Prelude.{length, decimal};
+ghost use Rattle.std.specs.Prelude.{decimal};
 ghost use Rattle.text.specs.Labelled.{labelled};
+ghost use Rattle.text.specs.Laws.{Takes};
 
 use crate::sink::Sink;
 
-// Adds a number.
+// Adds a number, where there is room for it.
 // Digit by digit, since the library's writer of digits needs a buffer of its own, and the day sheet
 // would then take more instructions than plain Rust.
 pub fn put_number<S: Sink>(out: &mut S, n: u16)
-    requires { S.has_room out.old (length (decimal n)) }
-    ensures { S.adds out.old (decimal n) out.new }
+    ensures { Takes S.has_room S.adds out.old (decimal n) out.new }
 {
     if n < 10 {
         out.put_byte(b'0' + n as u8);
@@ -19,10 +19,9 @@ pub fn put_number<S: Sink>(out: &mut S, n: u16)
     }
 }
 
-// Adds a word and a number.
+// Adds a word and a number, where there is room for both.
 pub fn put_labelled<S: Sink>(out: &mut S, word: &[u8], n: u16)
-    requires { S.has_room out.old (length (labelled word.now n)) }
-    ensures { S.adds out.old (labelled word.now n) out.new }
+    ensures { Takes S.has_room S.adds out.old (labelled word.now n) out.new }
 {
     out.put(word);
     put_number(out, n);

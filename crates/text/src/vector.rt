@@ -1,4 +1,4 @@
-// A vector whose room was reserved.
+// A vector whose room was reserved: nothing that adds text asks for memory.
 ghost use Rattle.text.specs.Vector.{Room, Added, vector_laws};
 
 use crate::sink::Sink;
@@ -8,12 +8,20 @@ impl Sink for Vec<u8> {
 
     ghost adds = { Added };
 
+    // A full vector stays as it is.
     fn put_byte(&mut self, byte: u8) {
-        self.push_reserved(byte);
+        if self.len() < self.capacity() {
+            self.push_reserved(byte);
+        }
     }
 
+    // A vector with less room stays as it is.
     fn put(&mut self, text: &[u8]) {
-        self.extend_from_slice(text).unwrap();
+        if text.len() <= self.capacity() - self.len() {
+            for byte in text {
+                self.push_reserved(*byte);
+            }
+        }
     }
 
     ghost laws = { vector_laws };

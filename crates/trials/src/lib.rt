@@ -4,6 +4,8 @@
 #[cfg(test)]
 mod day_files;
 #[cfg(test)]
+mod day_lines;
+#[cfg(test)]
 mod floors;
 #[cfg(test)]
 mod group_plans;

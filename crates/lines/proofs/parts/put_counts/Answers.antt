@@ -1,8 +1,8 @@
-use Rattle.std.proofs.Common.{◌≡◌, ℕ, ◌+◌, ◌-◌, ◌<◌, ◌≤◌, List, [], ◌∷◌, ◌++◌, map, length, get_or, take, drop, decimal, sym, refl, ap, subst, arith}
+use Rattle.std.proofs.Common.{◌≡◌, ℕ, ◌+◌, ◌-◌, ◌<◌, ◌≤◌, List, [], ◌∷◌, ◌++◌, map, length, get_or, take, drop, decimal, sym, refl, ap, arith}
 use Rattle.std.proofs.lemmas.List.{take_all, drop_more, drop_all}
 use Rattle.std.specs.List.{flat_map}
 use Rattle.text.specs.Labelled.{labelled}
-use Rattle.text.proofs.Sinks.{lacks_all, lacks_room, lacks_next, lacks_as, lacks_none}
+use Rattle.text.proofs.Sinks.{lacks_all, lacks_room, lacks_next, lacks_as, lacks_none, takes_none, takes_as}
 use Rattle.lines.specs.Line.{commas}
 use Rattle.lines.proofs.parts.put_counts.Goals as goal
 
@@ -25,32 +25,27 @@ others_next xs i h = ap others (drop_more xs i 0 h)
 
 pub returns-in_default : goal.returns-in_default
 returns-in_default g c =
-    subst (λ (t : List ℕ). g.S.Sink.adds c.args.out.now t c.args.out.now) (commas_none c.args.counts.now c.in_default.len_below) (g.met.S.Sink.laws.none c.args.out.now)
-
-pub put_number-requires : goal.put_number-requires
-put_number-requires g c =
-    let laws = g.met.S.Sink.laws in
-    lacks_room laws _ _ (lacks_as (lacks_all laws c.requires) (commas_first c.args.counts.now c.in-len1-up.len_at_least))
+    let laws = g.met.S.Sink.laws in takes_as laws (sym (commas_none c.args.counts.now c.in_default.len_below)) (takes_none laws c.args.out.now)
 
 pub loop-count-init : goal.loop-count-init
 loop-count-init g c =
     let laws = g.met.S.Sink.laws in
-    lacks_next laws _ _ (lacks_as (lacks_all laws c.requires) (commas_first c.args.counts.now c.in-len1-up.len_at_least)) c.put_number.ensures
-
-pub put_labelled-requires : goal.put_labelled-requires
-unfolding labelled
-put_labelled-requires g c =
-    let i = c.loop-count.count-index in
-    let xs = take (length c.args.counts.now - 1) (drop 1 c.args.counts.now) in
-    lacks_room g.met.S.Sink.laws (44 ∷ decimal (get_or xs i 0)) (others (drop (i + 1) xs)) (lacks_as c.loop-count.invariant (others_next xs i c.loop-count-test.true))
+    λ room.
+    let all = lacks_as (lacks_all laws room) (commas_first c.args.counts.now c.in-len1-up.len_at_least) in
+    lacks_next laws _ _ all (c.put_number.ensures (lacks_room laws _ _ all))
 
 pub loop-count-preserved : goal.loop-count-preserved
 unfolding labelled
 loop-count-preserved g c =
+    let laws = g.met.S.Sink.laws in
     let i = c.loop-count.count-index in
     let xs = take (length c.args.counts.now - 1) (drop 1 c.args.counts.now) in
-    lacks_next g.met.S.Sink.laws _ (others (drop (i + 1) xs)) (lacks_as c.loop-count.invariant (others_next xs i c.loop-count-test.true)) c.put_labelled.ensures
+    λ room.
+    let rest = lacks_as (c.loop-count.invariant room) (others_next xs i c.loop-count-test.true) in
+    lacks_next laws (44 ∷ decimal (get_or xs i 0)) (others (drop (i + 1) xs)) rest
+    (c.put_labelled.ensures (lacks_room laws (44 ∷ decimal (get_or xs i 0)) (others (drop (i + 1) xs)) rest))
 
 pub returns : goal.returns
 returns g c =
-    lacks_none g.met.S.Sink.laws c.loop-count.invariant (ap others (drop_all c.loop-count.count-index _ c.loop-count-test.false))
+    λ room.
+    lacks_none g.met.S.Sink.laws (c.loop-count.invariant room) (ap others (drop_all c.loop-count.count-index _ c.loop-count-test.false))

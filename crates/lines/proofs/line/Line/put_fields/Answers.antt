@@ -1,4 +1,4 @@
-use Rattle.std.proofs.Common.{◌≡◌, ℕ, List, [], ◌∷◌, ◌++◌, codes, decimal, refl, sym, ap, ◌∙◌, Bor}
+use Rattle.std.proofs.Common.{◌≡◌, ℕ, List, [], ◌∷◌, ◌++◌, codes, decimal, sym, ap, ◌∙◌, Bor}
 use Rattle.std.specs.List.{concat}
 use Rattle.std.proofs.lemmas.List.{append_assoc}
 use Rattle.refusals.specs.Number.{number}
@@ -6,7 +6,7 @@ use Rattle.refusals.specs.declared.Refusal.{Refusal}
 use Rattle.order.specs.declared.kinds.Relation.{Relation}
 use Rattle.text.specs.Labelled.{labelled}
 use Rattle.text.specs.Line.{parted}
-use Rattle.text.proofs.Sinks.{owes_all, owes_room, owes_next, owes_none}
+use Rattle.text.proofs.Sinks.{takes_none, takes_more, takes_as}
 use Rattle.lines.specs.declared.line.Line.{Line}
 use Rattle.lines.specs.declared.line.Line.TheVariants.{Handover, RefusedHandover, Question, RefusedQuestion}
 use Rattle.order.specs.Words.{relation_word}
@@ -55,100 +55,30 @@ unfolding labelled
 refused_question_is {first = first} {second = second} e n =
     ap (λ (l : Line). parted 32 (fields l)) e ∙ ap (λ (m : ℕ). concat (refused_question first second m)) (sym n)
 
--- Each part has room, since the line has, and after the last the fields are there.
-
-pub put_number-requires : goal.put_number-requires
-put_number-requires g c =
-    let laws = g.met.S.Sink.laws in
-    owes_room laws (owes_all laws (handover c.in-Handover.number c.in-Handover.giver c.in-Handover.taker c.in-Handover.counts.now) (handover_is c.in-Handover.is) c.requires)
-
-pub put-requires : goal.put-requires
-put-requires g c =
-    let laws = g.met.S.Sink.laws in
-    let all = owes_all laws (handover c.in-Handover.number c.in-Handover.giver c.in-Handover.taker c.in-Handover.counts.now) (handover_is c.in-Handover.is) c.requires in
-    owes_room laws (owes_next laws (owes_next laws all c.put_number.ensures) c.put_stations.ensures)
-
-pub put_counts-requires : goal.put_counts-requires
-put_counts-requires g c =
-    let laws = g.met.S.Sink.laws in
-    let all = owes_all laws (handover c.in-Handover.number c.in-Handover.giver c.in-Handover.taker c.in-Handover.counts.now) (handover_is c.in-Handover.is) c.requires in
-    owes_room laws (owes_next laws (owes_next laws (owes_next laws all c.put_number.ensures) c.put_stations.ensures) c.put.ensures)
+-- After the last part the fields are there.
 
 pub returns-in-Handover : goal.returns-in-Handover
 returns-in-Handover g c =
     let laws = g.met.S.Sink.laws in
-    let all = owes_all laws (handover c.in-Handover.number c.in-Handover.giver c.in-Handover.taker c.in-Handover.counts.now) (handover_is c.in-Handover.is) c.requires in
-    owes_none laws (owes_next laws (owes_next laws (owes_next laws (owes_next laws all c.put_number.ensures) c.put_stations.ensures) c.put.ensures) c.put_counts.ensures)
-
-pub put-requires-in-RefusedHandover : goal.put-requires-in-RefusedHandover
-put-requires-in-RefusedHandover g c =
-    let laws = g.met.S.Sink.laws in
-    owes_room laws (owes_all laws (refused_handover c.in-RefusedHandover.giver c.in-RefusedHandover.taker _) (refused_handover_is c.in-RefusedHandover.is refl) c.requires)
-
-pub put_labelled-requires : goal.put_labelled-requires
-put_labelled-requires g c =
-    let laws = g.met.S.Sink.laws in
-    let n = c.number in
-    let all = owes_all laws (refused_handover c.in-RefusedHandover.giver c.in-RefusedHandover.taker n.result) (refused_handover_is c.in-RefusedHandover.is n.ensures.exact) c.requires in
-    owes_room laws (owes_next laws (owes_next laws all c.put-in-RefusedHandover.ensures) c.put_stations-in-RefusedHandover.ensures)
+    takes_as laws (handover_is c.in-Handover.is)
+    (takes_more laws c.put_number.ensures (takes_more laws c.put_stations.ensures (takes_more laws c.put.ensures (takes_more laws c.put_counts.ensures (takes_none laws _)))))
 
 pub returns-in-RefusedHandover : goal.returns-in-RefusedHandover
 returns-in-RefusedHandover g c =
     let laws = g.met.S.Sink.laws in
-    let n = c.number in
-    let all = owes_all laws (refused_handover c.in-RefusedHandover.giver c.in-RefusedHandover.taker n.result) (refused_handover_is c.in-RefusedHandover.is n.ensures.exact) c.requires in
-    owes_none laws (owes_next laws (owes_next laws (owes_next laws all c.put-in-RefusedHandover.ensures) c.put_stations-in-RefusedHandover.ensures) c.put_labelled.ensures)
-
-pub put_number-requires-in-Question : goal.put_number-requires-in-Question
-put_number-requires-in-Question g c =
-    let laws = g.met.S.Sink.laws in
-    owes_room laws (owes_all laws (question c.in-Question.first c.in-Question.second _) (question_is c.in-Question.is refl) c.requires)
-
-pub put_labelled-requires-in-Question : goal.put_labelled-requires-in-Question
-put_labelled-requires-in-Question g c =
-    let laws = g.met.S.Sink.laws in
-    let all = owes_all laws (question c.in-Question.first c.in-Question.second (relation_word c.in-Question.relation)) (question_is c.in-Question.is refl) c.requires in
-    owes_room laws (owes_next laws all c.put_number-in-Question.ensures)
-
-pub put-requires-in-Question : goal.put-requires-in-Question
-put-requires-in-Question g c =
-    let laws = g.met.S.Sink.laws in
-    let all = owes_all laws (question c.in-Question.first c.in-Question.second (relation_word c.in-Question.relation)) (question_is c.in-Question.is refl) c.requires in
-    owes_room laws (owes_next laws (owes_next laws all c.put_number-in-Question.ensures) c.put_labelled-in-Question.ensures)
-
-pub put-requires-in-Question-2 : goal.put-requires-in-Question-2
-put-requires-in-Question-2 g c =
-    let laws = g.met.S.Sink.laws in
-    let all = owes_all laws (question c.in-Question.first c.in-Question.second c.as_bytes.result.now) (question_is c.in-Question.is (c.as_bytes.ensures.value ∙ c.word.ensures)) c.requires in
-    owes_room laws (owes_next laws (owes_next laws (owes_next laws all c.put_number-in-Question.ensures) c.put_labelled-in-Question.ensures) c.put-in-Question.ensures)
+    takes_as laws (refused_handover_is c.in-RefusedHandover.is c.number.ensures.exact)
+    (takes_more laws c.put-in-RefusedHandover.ensures (takes_more laws c.put_stations-in-RefusedHandover.ensures (takes_more laws c.put_labelled.ensures (takes_none laws _))))
 
 pub returns-in-Question : goal.returns-in-Question
 returns-in-Question g c =
     let laws = g.met.S.Sink.laws in
-    let all = owes_all laws (question c.in-Question.first c.in-Question.second c.as_bytes.result.now) (question_is c.in-Question.is (c.as_bytes.ensures.value ∙ c.word.ensures)) c.requires in
-    owes_none laws (owes_next laws (owes_next laws (owes_next laws (owes_next laws all c.put_number-in-Question.ensures) c.put_labelled-in-Question.ensures) c.put-in-Question.ensures) c.put-in-Question-2.ensures)
-
-pub put_number-requires-in-RefusedQuestion : goal.put_number-requires-in-RefusedQuestion
-put_number-requires-in-RefusedQuestion g c =
-    let laws = g.met.S.Sink.laws in
-    owes_room laws (owes_all laws (refused_question c.in-RefusedQuestion.first c.in-RefusedQuestion.second _) (refused_question_is c.in-RefusedQuestion.is refl) c.requires)
-
-pub put_labelled-requires-in-RefusedQuestion : goal.put_labelled-requires-in-RefusedQuestion
-put_labelled-requires-in-RefusedQuestion g c =
-    let laws = g.met.S.Sink.laws in
-    let all = owes_all laws (refused_question c.in-RefusedQuestion.first c.in-RefusedQuestion.second _) (refused_question_is c.in-RefusedQuestion.is refl) c.requires in
-    owes_room laws (owes_next laws all c.put_number-in-RefusedQuestion.ensures)
-
-pub put_labelled-requires-in-RefusedQuestion-2 : goal.put_labelled-requires-in-RefusedQuestion-2
-put_labelled-requires-in-RefusedQuestion-2 g c =
-    let laws = g.met.S.Sink.laws in
-    let n = c.number-in-RefusedQuestion in
-    let all = owes_all laws (refused_question c.in-RefusedQuestion.first c.in-RefusedQuestion.second n.result) (refused_question_is c.in-RefusedQuestion.is n.ensures.exact) c.requires in
-    owes_room laws (owes_next laws (owes_next laws all c.put_number-in-RefusedQuestion.ensures) c.put_labelled-in-RefusedQuestion.ensures)
+    takes_as laws (question_is c.in-Question.is (c.as_bytes.ensures.value ∙ c.word.ensures))
+    (takes_more laws c.put_number-in-Question.ensures
+    (takes_more laws c.put_labelled-in-Question.ensures (takes_more laws c.put-in-Question.ensures (takes_more laws c.put-in-Question-2.ensures (takes_none laws _)))))
 
 pub returns-in-RefusedQuestion : goal.returns-in-RefusedQuestion
 returns-in-RefusedQuestion g c =
     let laws = g.met.S.Sink.laws in
-    let n = c.number-in-RefusedQuestion in
-    let all = owes_all laws (refused_question c.in-RefusedQuestion.first c.in-RefusedQuestion.second n.result) (refused_question_is c.in-RefusedQuestion.is n.ensures.exact) c.requires in
-    owes_none laws (owes_next laws (owes_next laws (owes_next laws all c.put_number-in-RefusedQuestion.ensures) c.put_labelled-in-RefusedQuestion.ensures) c.put_labelled-in-RefusedQuestion-2.ensures)
+    takes_as laws (refused_question_is c.in-RefusedQuestion.is c.number-in-RefusedQuestion.ensures.exact)
+    (takes_more laws c.put_number-in-RefusedQuestion.ensures
+    (takes_more laws c.put_labelled-in-RefusedQuestion.ensures (takes_more laws c.put_labelled-in-RefusedQuestion-2.ensures (takes_none laws _))))
