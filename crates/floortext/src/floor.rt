@@ -2,6 +2,7 @@
 ghost use Rattle.std.specs.Prelude.{◌≤◌, length};
 ghost use Rattle.std.specs.List.{flat_map};
 ghost use Rattle.refusals.specs.Number.{number};
+ghost use Rattle.text.specs.Laws.{Takes};
 ghost use Rattle.text.specs.Vector.{Room, Added};
 ghost use Rattle.text.specs.Line.{refused_file_line};
 ghost use Rattle.floortext.specs.Floor.{route_text, member_text, shape_text, group_line, group_lines, head_lines, floor_text};
@@ -13,8 +14,7 @@ use text::refused::put_refused;
 use text::sink::Sink;
 
 fn put_route(out: &mut Vec<u8>, route: Route)
-    requires { Room out.old (length (route_text route)) }
-    ensures { Added out.old (route_text route) out.new }
+    ensures { Takes Room Added out.old (route_text route) out.new }
 {
     put_labelled(out, b" ", route.low as u16);
     put_labelled(out, b"-", route.high as u16);
@@ -22,8 +22,7 @@ fn put_route(out: &mut Vec<u8>, route: Route)
 
 // Writes the routes of group k. A filter of the routes would be no shorter than the test.
 fn put_members(out: &mut Vec<u8>, routes: &[Route], k: u8)
-    requires { Room out.old (length (flat_map (member_text k) routes.now)) }
-    ensures { Added out.old (flat_map (member_text k) routes.now) out.new }
+    ensures { Takes Room Added out.old (flat_map (member_text k) routes.now) out.new }
 {
     for route in routes {
         if route.is_in(k as usize) {
@@ -33,8 +32,7 @@ fn put_members(out: &mut Vec<u8>, routes: &[Route], k: u8)
 }
 
 fn put_shape(out: &mut Vec<u8>, group: Group)
-    requires { Room out.old (length (shape_text group)) }
-    ensures { Added out.old (shape_text group) out.new }
+    ensures { Takes Room Added out.old (shape_text group) out.new }
 {
     match group {
         Group::Star(c) => put_labelled(out, b" star ", c as u16),
@@ -48,8 +46,7 @@ fn put_shape(out: &mut Vec<u8>, group: Group)
 
 // Writes the line of group k.
 fn put_group_line(out: &mut Vec<u8>, routes: &[Route], k: u8, group: Group)
-    requires { Room out.old (length (group_line routes.now k group)) }
-    ensures { Added out.old (group_line routes.now k group) out.new }
+    ensures { Takes Room Added out.old (group_line routes.now k group) out.new }
 {
     put_labelled(out, b"count ", k as u16);
     put_shape(out, group);
@@ -59,8 +56,8 @@ fn put_group_line(out: &mut Vec<u8>, routes: &[Route], k: u8, group: Group)
 }
 
 fn put_group_lines(out: &mut Vec<u8>, routes: &[Route], groups: &[Group])
-    requires { (Room out.old (length (group_lines routes.now 0 groups.now))) × (length groups.now ≤ 256) }
-    ensures { Added out.old (group_lines routes.now 0 groups.now) out.new }
+    requires { length groups.now ≤ 32 }
+    ensures { Takes Room Added out.old (group_lines routes.now 0 groups.now) out.new }
 {
     for (k, group) in groups.iter().enumerate() {
         put_group_line(out, routes, k as u8, *group);
@@ -68,8 +65,7 @@ fn put_group_lines(out: &mut Vec<u8>, routes: &[Route], groups: &[Group])
 }
 
 fn put_head_lines(out: &mut Vec<u8>, stations: u16, counts: u16)
-    requires { Room out.old (length (head_lines stations counts)) }
-    ensures { Added out.old (head_lines stations counts) out.new }
+    ensures { Takes Room Added out.old (head_lines stations counts) out.new }
 {
     put_labelled(out, b"stations ", stations);
     out.put_byte(b'\n');
@@ -79,7 +75,7 @@ fn put_head_lines(out: &mut Vec<u8>, stations: u16, counts: u16)
 
 // Writes a floor: its stations, its counts, and a line for each group.
 pub(crate) fn put_floor(out: &mut Vec<u8>, stations: u8, routes: &[Route], groups: &[Group])
-    requires { (Room out.old (length (floor_text stations routes.now groups.now))) × (length groups.now ≤ 256) }
+    requires { (Room out.old (length (floor_text stations routes.now groups.now))) × (length groups.now ≤ 32) }
     ensures { Added out.old (floor_text stations routes.now groups.now) out.new }
 {
     put_head_lines(out, stations as u16, groups.len() as u16);

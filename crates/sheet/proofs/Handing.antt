@@ -12,20 +12,21 @@ use Rattle.book.specs.History.{HandsOver}
 use Rattle.refusals.proofs.Numbers.{some_number}
 use Rattle.lines.specs.Line.{handover_line, refused_handover_line}
 use Rattle.lines.proofs.Bounds.{handover_le, refused_handover_le}
-use Rattle.text.specs.Vector.{Added, vector_laws}
+use Rattle.text.specs.Laws.{Takes}
+use Rattle.text.specs.Vector.{Room, Added, vector_laws}
 use Rattle.sheet.specs.Day.{refusal_of, handed, calls}
 use Rattle.sheet.specs.Sheet.{Counts, refused, settled}
 use Rattle.sheet.specs.Steps.{meaning, floor_meaning, After, Comes, CountsIn, HandoverPut, HandoversPut}
 use Rattle.sheet.proofs.Offers.{shows, handed_refused, handed_settled, count_most, entries_most}
 
--- a refused handover
+-- a refused handover, where there is room for the longest line
 pub put_refused : {Z : Type 0} (f f' : Floor GroupPlan) (g t : ℕ) (e : Refusal) (out out' : Vec ℕ Z)
     → Refused meaning f (offer g t) e f' → HandsOver meaning f g t (Err e) f'
-    → Added out (refused_handover_line g t (number e)) out' → g < 2 ^ 8 → t < 2 ^ 8
+    → Room out 206 → Takes Room Added out (refused_handover_line g t (number e)) out' → g < 2 ^ 8 → t < 2 ^ 8
     → HandoverPut f (g, t) out f' out'
-put_refused f f' g t e out out' r on a gh th = record {
+put_refused f f' g t e out out' r on room a gh th = record {
   line = refused_handover_line g t (number e);
-  added = a;
+  added = a (omega (arith, room, refused_handover_le g t e gh th));
   short = omega (arith, refused_handover_le g t e gh th);
   plan = ap (λ (x : Floor GroupPlan). x.plan) r.same;
   run = λ cs run. rw (← handed_refused (floor_meaning f) cs (g, t) (not_0 cs run)) (on cs run);
@@ -58,7 +59,7 @@ module _ {f two : Floor GroupPlan} {g t n : ℕ} (d : ℕ) (counts : List ℕ)
       omega (arith, get_or-take d counts i 0 l', entries_most run)
 
   -- its line is short, since the floor has few entries
-  pub handover_short : length (handover_line n g t (take d counts)) ≤ 206
+  handover_short : length (handover_line n g t (take d counts)) ≤ 206
   handover_short = handover_le n g t (take d counts) nh gh th small few_counts
 
   ok : (cs : List Call) → After cs f → refusal_of (floor_meaning f) cs (g, t) ≡ 0
@@ -79,10 +80,11 @@ module _ {f two : Floor GroupPlan} {g t n : ℕ} (d : ℕ) (counts : List ℕ)
         rw (get_or-take d counts k 0 (omega arith), ← number_is cs run) here;
   }
 
-  pub put_settled : {Z : Type 0} {out out' : Vec ℕ Z} → length counts ≡ 32 → Added out (handover_line n g t (take d counts)) out' → HandoverPut f (g, t) out two out'
-  put_settled wide add = record {
+  pub put_settled : {Z : Type 0} {out out' : Vec ℕ Z} → length counts ≡ 32 → Room out 206 → Takes Room Added out (handover_line n g t (take d counts)) out'
+      → HandoverPut f (g, t) out two out'
+  put_settled wide room a = record {
     line = handover_line n g t (take d counts);
-    added = add;
+    added = a (omega (arith, room, handover_short));
     short = handover_short;
     plan = plan;
     run = run';

@@ -1,4 +1,3 @@
-mod Texts
 mod Records
 mod Offers
 mod Handing

@@ -1,5 +1,6 @@
 -- The printed text is the sheet. Assumes nothing.
-use Rattle.std.proofs.Common.{◌≡◌, ℕ, List, [], ◌++◌, None, Option, vec_items, Vec, ap, ◌∙◌, subst}
+use Rattle.std.proofs.Common.{◌≡◌, ℕ, ◌^◌, ◌<◌, ◌≤◌, List, [], ◌++◌, length, Some, Option, vec_capacity, vec_items, Vec, ap, ◌∙◌, subst, arith}
+use Rattle.refusals.specs.Number.{number}
 use Rattle.plans.specs.Meaning.{Meaning}
 use Rattle.order.specs.Plain.{plain}
 use Rattle.grouping.specs.declared.plan.GroupPlan.{GroupPlan}
@@ -8,10 +9,17 @@ use Rattle.book.specs.declared.floor.Floor.{Floor}
 use Rattle.dayfile.specs.declared.refusal.FileRefusal.{FileRefusal}
 use Rattle.dayfile.specs.Check.{file_verdict}
 use Rattle.dayfile.specs.Reading.{file_contents}
+use Rattle.text.specs.Laws.{Takes}
+use Rattle.text.specs.Line.{refused_file_line}
+use Rattle.text.specs.Vector.{Room, Added}
+use Rattle.lines.proofs.Bounds.{refused_file_le}
 use Rattle.sheet.specs.Day.{plan_of, handover_at, handover_count, question_at, question_count, calls}
 use Rattle.sheet.specs.Sheet.{Lines, AskedLine, DayText, TextBy, IsSheet}
 use Rattle.sheet.specs.Steps.{meaning, floor_meaning, HandoversPut, QuestionsPut}
-use Rattle.sheet.proofs.Texts.{added_alone}
+
+-- a text that is added to an empty one
+added_alone : {Z : Type 0} {v w : Vec ℕ Z} {text : List ℕ} → Added v text w → vec_items v ≡ [] → vec_items w ≡ text
+added_alone {text = text} a e = a.items ∙ ap (λ xs. xs ++ text) e
 
 -- the plan that was read is the file's
 pub plan_read : (bs : List ℕ) {p q : GroupPlan} → q ≡ p → contents p ≡ file_contents bs → meaning q ≡ plan_of bs
@@ -31,5 +39,12 @@ day_text bs empty m p q = record {
   is = q.added.items ∙ ap (λ (xs : List ℕ). xs ++ q.text) (added_alone p.added empty);
 }
 
-pub sheet_day : (bs text : List ℕ) → None ≡ file_verdict bs → DayText bs text → IsSheet bs text
-sheet_day bs text v d = subst (λ (o : Option FileRefusal). TextBy bs o text) v d
+-- the text by the file's verdict
+pub sheet_by : (bs text : List ℕ) {v : Option FileRefusal} → v ≡ file_verdict bs → TextBy bs v text → IsSheet bs text
+sheet_by bs text e t = subst (λ (o : Option FileRefusal). TextBy bs o text) e t
+
+-- the line of the refusal, in an empty buffer that has room for it
+pub refused_sheet : (bs : List ℕ) (e : FileRefusal) {Z : Type 0} {v w : Vec ℕ Z} → vec_items v ≡ [] → 230000 ≤ vec_capacity v
+    → Some e ≡ file_verdict bs → e.place < 2 ^ 16 → Takes Room Added v (refused_file_line (number e.refusal) e.place) w → IsSheet bs (vec_items w)
+refused_sheet bs e {v = v} empty roomy is small a =
+    sheet_by bs _ is (added_alone (a (omega (arith, roomy, ap length empty, refused_file_le e.refusal e.place small))) empty)

@@ -9,23 +9,19 @@ use Rattle.floortext.proofs.floor.put_members.Goals as goal
 use Rattle.floortext.proofs.floor.put_members.Goals.{then-is_in, else-is_in}
 
 pub loop-route-init : goal.loop-route-init
-loop-route-init c = lacks_all vector_laws c.requires
-
-pub put_route-requires : goal.put_route-requires
-put_route-requires c =
-    let is = sym c.is_in.ensures ∙ c.if-is_in.true in
-    lacks_room vector_laws _ _ (lacks_as c.loop-route.invariant (members_in c.args.k c.args.routes.now c.loop-route.route-index (omega arith) is))
+loop-route-init c = λ room. lacks_all vector_laws room
 
 pub loop-route-preserved : goal.loop-route-preserved
 loop-route-preserved c =
     let at : c.loop-route.route-index < length c.args.routes.now = omega arith in
     let test = sym c.is_in.ensures in
-    elim c.if-is_in.branch [
+    λ room. elim c.if-is_in.branch [
       | then-is_in w ↦
-          rw w.out-is (lacks_next vector_laws _ _ (lacks_as c.loop-route.invariant (members_in c.args.k c.args.routes.now c.loop-route.route-index at (test ∙ w.if-is_in.true))) w.put_route.ensures)
-      | else-is_in w ↦ rw w.out-is (lacks_as c.loop-route.invariant (members_out c.args.k c.args.routes.now c.loop-route.route-index at (test ∙ w.if-is_in.false)))
+          let lacks = lacks_as (c.loop-route.invariant room) (members_in c.args.k c.args.routes.now c.loop-route.route-index at (test ∙ w.if-is_in.true)) in
+          rw w.out-is (lacks_next vector_laws _ _ lacks (w.put_route.ensures (lacks_room vector_laws _ _ lacks)))
+      | else-is_in w ↦ rw w.out-is (lacks_as (c.loop-route.invariant room) (members_out c.args.k c.args.routes.now c.loop-route.route-index at (test ∙ w.if-is_in.false)))
     ]
 
 pub returns : goal.returns
 returns c =
-    lacks_none vector_laws c.loop-route.invariant (at_drop_all (flat_map (member_text c.args.k)) c.args.routes.now c.loop-route.route-index (omega arith))
+    λ room. lacks_none vector_laws (c.loop-route.invariant room) (at_drop_all (flat_map (member_text c.args.k)) c.args.routes.now c.loop-route.route-index (omega arith))

@@ -2,6 +2,7 @@ use Rattle.std.proofs.Common.{length, ap, ◌∙◌, arith, rules}
 use Rattle.refusals.specs.Number.{number}
 use Rattle.grouping.specs.Plan.{contents}
 use Rattle.dayfile.specs.Check.{file_verdict}
+use Rattle.dayfile.specs.Verdict.{verdict_of}
 use Rattle.dayfile.specs.Reading.{file_contents}
 use Rattle.floortext.proofs.Bounds.{refusal_le}
 use Rattle.floortext.proofs.Floorplans.{contents_le, lent_text, printed_floor, printed_refusal, added_alone}
@@ -21,9 +22,10 @@ returns-in-Ok c =
     let bs = c.args.bytes.now in
     let lent = lent_text p c.stations.ensures c.routes.ensures c.groups.ensures.groups in
     let held = c.in-Ok.ensures.floor ∙ ap (λ b. file_contents b.now) c.open.ensures in
+    let is = ap verdict_of c.in-Ok.is in
     let accepted = c.in-Ok.ensures.verdict ∙ ap (λ b. file_verdict b.now) c.open.ensures in
     record {
-      verdict = c.read-verdict.ensures.verdict ∙ ap (λ b. file_verdict b.now) c.open.ensures;
+      verdict = cc;
       text = printed_floor bs (contents p) (added_alone c.put_floor.ensures c.clear.ensures.items ∙ lent) held accepted;
     }
 
