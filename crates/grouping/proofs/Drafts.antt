@@ -11,7 +11,7 @@ use Rattle.regrouping.proofs.Regroups.{regroups}
 use Rattle.regrouping.proofs.Written.{New}
 use Rattle.regrouping.proofs.Finish.{write_less}
 use Rattle.grouping.specs.declared.draft.Draft.{Draft}
-use Rattle.grouping.specs.Draft.{drawn, Makes, TakesLast}
+use Rattle.grouping.specs.Draft.{drawn, Makes, SameRoom, TakesLast}
 
 pub ready : (d : Draft) → Ready d.stations (drawn d)
 ready d = record { stations = d.few.0; ordered = d.ordered; short = d.few.1; room = d.places }
@@ -45,14 +45,15 @@ fewer d e f h m =
 pub after : (f g : ℕ → Work → Work) (d l e : Draft) → Makes f d l → Makes g l e → Makes (λ n w. g n (f n w)) d e
 after f g d l e m o = record { stations = o.stations ∙ m.stations; drawn = o.drawn ∙ (ap (λ n. g n (drawn l)) m.stations ∙ ap (g d.stations) m.drawn) }
 
--- on the way of a loop from the draft i, d has the same still to come
+-- on the way of a loop from the draft i, d has the same still to come, and the same room
 pub record Going (run : ℕ → Work → Work) (i d : Draft) : Type 0 where
   pub stations : d.stations ≡ i.stations
   pub ahead : run i.stations (drawn d) ≡ run i.stations (drawn i)
+  pub room : SameRoom i d
 
-pub goes_on : (run f : ℕ → Work → Work) (i d e : Draft) → Going run i d → Makes f d e → run d.stations (drawn d) ≡ run d.stations (f d.stations (drawn d)) → Going run i e
-goes_on run f i d e g m h =
-    record { stations = m.stations ∙ g.stations; ahead = ap (run i.stations) m.drawn ∙ (subst (λ n. run n (f d.stations (drawn d)) ≡ run n (drawn d)) g.stations (sym h) ∙ g.ahead) }
+pub goes_on : (run f : ℕ → Work → Work) (i d e : Draft) → Going run i d → Makes f d e → SameRoom d e → run d.stations (drawn d) ≡ run d.stations (f d.stations (drawn d)) → Going run i e
+goes_on run f i d e g m s h =
+    record { stations = m.stations ∙ g.stations; room = record { routes = s.routes ∙ g.room.routes; groups = s.groups ∙ g.room.groups }; ahead = ap (run i.stations) m.drawn ∙ (subst (λ n. run n (f d.stations (drawn d)) ≡ run n (drawn d)) g.stations (sym h) ∙ g.ahead) }
 
 -- what regrouping makes of a draft
 pub regroups_draft : (d e : Draft) → Makes (λ n w. regrouped n w.table) d e → Regroups (vec_items d.routes) (drawn e)

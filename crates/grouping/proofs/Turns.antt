@@ -39,7 +39,7 @@ new_less : (n : ℕ) (k : Group) (w : Work) → Ready n w → New k w.table → 
 new_less n k w r e = (ready_new n k w r e, write_less n k w r e)
 
 -- ---- the leaf rule
-pub leaf_new : (n s : ℕ) (w : Work) → leaf w.table n ≡ Some s → New (Star (mate w.table s)) w.table
+leaf_new : (n s : ℕ) (w : Work) → leaf w.table n ≡ Some s → New (Star (mate w.table s)) w.table
 leaf_new n s w e = mate_live w.table s (omega (arith, (leaf_some w.table n s e).lone))
 
 pub leaves_turn : (n s : ℕ) (w : Work) → Ready n w → leaf w.table n ≡ Some s → leaves n n w ≡ leaves n n (write (Star (mate w.table s)) w)

@@ -1,7 +1,7 @@
 // A draft that takes given routes and groups.
 ghost use Rattle.std.specs.Prelude.{◌≡◌, ◌≤◌, length, vec_capacity};
 ghost use Rattle.regrouping.specs.Steps.{Ready, work};
-ghost use Rattle.grouping.specs.Draft.{drawn};
+ghost use Rattle.grouping.specs.Draft.{SameRoom, drawn};
 
 use crate::degrees::Degrees;
 use crate::draft::Draft;
@@ -11,10 +11,13 @@ use routes::route::{Group, Route};
 fn refill<T: Copy>(to: &mut Vec<T>, items: &[T])
     requires { length items.now ≤ vec_capacity to.old }
     ensures items { to.new.items ≡ items.now }
-    ensures capacity { vec_capacity to.old ≤ vec_capacity to.new }
+    ensures capacity { vec_capacity to.new ≡ vec_capacity to.old }
 {
     to.clear();
-    to.extend_from_slice(items).unwrap();
+    // One after another, as extend_from_slice does not promise that it asks for no memory.
+    for item in items {
+        to.push_reserved(*item);
+    }
 }
 
 impl Draft {
@@ -23,6 +26,7 @@ impl Draft {
         requires { Ready stations (work routes.now groups.now) }
         ensures stations { self.new.stations ≡ stations }
         ensures drawn { drawn self.new ≡ work routes.now groups.now }
+        ensures capacity { SameRoom self.old self.new }
     {
         refill(&mut self.routes, routes);
         refill(&mut self.groups, groups);

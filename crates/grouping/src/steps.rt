@@ -3,7 +3,7 @@ ghost use Rattle.std.specs.Prelude.{◌≡◌, ◌<◌};
 ghost use Rattle.std.specs.List.{AllByRecursion};
 ghost use Rattle.regrouping.specs.Table.{Counted};
 ghost use Rattle.regrouping.specs.Steps.{Inside, leaves, mark, opened, regrouped, round, rounds, star, start, triangles, write};
-ghost use Rattle.grouping.specs.Draft.{Makes, TakesLast};
+ghost use Rattle.grouping.specs.Draft.{Makes, SameRoom, TakesLast};
 
 use crate::degrees::Degrees;
 use crate::draft::Draft;
@@ -39,7 +39,8 @@ impl Draft {
     // Writes one group more, with the remaining routes that fit it.
     pub(crate) fn write_group(&mut self, group: Group)
         requires { TakesLast group self.old }
-        ensures { Makes (λ n. write group) self.old self.new }
+        ensures made { Makes (λ n. write group) self.old self.new }
+        ensures capacity { SameRoom self.old self.new }
     {
         let number = self.groups.len() as u8;
         take_routes(&mut self.routes, &mut self.degrees, group, number);
@@ -48,7 +49,8 @@ impl Draft {
 
     // The leaf rule: while a station has exactly one remaining route, a star at the other end of the lowest such station's route.
     pub(crate) fn take_leaves(&mut self)
-        ensures { Makes (λ n. leaves n n) self.old self.new }
+        ensures made { Makes (λ n. leaves n n) self.old self.new }
+        ensures capacity { SameRoom self.old self.new }
     {
         while let Some(c) = self.lowest_leaf().and_then(|s| self.other_end(s)) {
             self.write_group(Group::Star(c));
@@ -57,7 +59,8 @@ impl Draft {
 
     // The loose triangle rule: the first loose triangle, while there is one.
     pub(crate) fn take_triangles(&mut self)
-        ensures { Makes (λ n. triangles n n) self.old self.new }
+        ensures made { Makes (λ n. triangles n n) self.old self.new }
+        ensures capacity { SameRoom self.old self.new }
     {
         // A loop beside that of the leaf rule: one loop over a rule that is handed in would be longer than both.
         while let Some((a, b, c)) = self.first_triangle() {
@@ -68,7 +71,8 @@ impl Draft {
     // A star at c, where c has a remaining route.
     pub(crate) fn star_at(&mut self, c: u8)
         requires { c < 32 }
-        ensures { Makes (λ n. star c) self.old self.new }
+        ensures made { Makes (λ n. star c) self.old self.new }
+        ensures capacity { SameRoom self.old self.new }
     {
         if self.degree(c) > 0 {
             self.write_group(Group::Star(c));
@@ -77,7 +81,8 @@ impl Draft {
 
     // The three rules in turn, once; of the heaviest route's ends the lower comes first.
     pub(crate) fn one_round(&mut self)
-        ensures { Makes round self.old self.new }
+        ensures made { Makes round self.old self.new }
+        ensures capacity { SameRoom self.old self.new }
     {
         self.take_leaves();
         self.take_triangles();
@@ -90,7 +95,8 @@ impl Draft {
 
     // The three rules in turn, while a route remains.
     pub(crate) fn all_rounds(&mut self)
-        ensures { Makes (λ n. rounds n n) self.old self.new }
+        ensures made { Makes (λ n. rounds n n) self.old self.new }
+        ensures capacity { SameRoom self.old self.new }
     {
         while self.any_remains() {
             self.one_round();
@@ -99,7 +105,8 @@ impl Draft {
 
     // Makes every route one that remains, and forgets the groups.
     pub(crate) fn reopen(&mut self)
-        ensures { Makes (λ n w. start w.table) self.old self.new }
+        ensures made { Makes (λ n w. start w.table) self.old self.new }
+        ensures capacity { SameRoom self.old self.new }
     {
         reopen_routes(&mut self.routes);
         self.groups.clear();
@@ -108,7 +115,8 @@ impl Draft {
 
     // Groups the routes anew.
     pub(crate) fn regroup(&mut self)
-        ensures { Makes (λ n w. regrouped n w.table) self.old self.new }
+        ensures made { Makes (λ n w. regrouped n w.table) self.old self.new }
+        ensures capacity { SameRoom self.old self.new }
     {
         self.reopen();
         self.all_rounds();

@@ -9,10 +9,10 @@ pub loop-self-smaller : goal.loop-self-smaller
 loop-self-smaller c =
     let d = c.loop-self.self in
     let h = round_takes d.stations (drawn d) (ready d) (sym c.any_remains.ensures ∙ c.loop-self-test.true) in
-    fewer d c.one_round.new.self round h c.one_round.ensures
+    fewer d c.one_round.new.self round h c.one_round.ensures.made
 
 pub loop-self-preserved : goal.loop-self-preserved
 loop-self-preserved c =
     let d = c.loop-self.self in
-    goes_on (λ n. rounds n n) round c.args.self.now d c.one_round.new.self c.loop-self.invariant c.one_round.ensures
+    goes_on (λ n. rounds n n) round c.args.self.now d c.one_round.new.self c.loop-self.invariant c.one_round.ensures.made c.one_round.ensures.capacity
     (rounds_turn d.stations (drawn d) (ready d) (sym c.any_remains.ensures ∙ c.loop-self-test.true))

@@ -31,12 +31,12 @@ star_at-requires c =
 pub star_at-requires-in-Some : goal.star_at-requires-in-Some
 star_at-requires-in-Some c = (between c.take_triangles.new.self c.in-Some.i c.index-r.result.now (sym c.best_route.ensures ∙ c.in-Some.is) c.index-r.ensures).1
 
-pub returns-in-Some : goal.returns-in-Some
-returns-in-Some c =
+pub returns-in-Some-clause-made : goal.returns-in-Some-clause-made
+returns-in-Some-clause-made c =
     let t = c.take_triangles.new.self in
     let r = c.index-r.result.now in
     let e = sym c.best_route.ensures ∙ c.in-Some.is in
-    let m = after (λ n. leaves n n) (λ n. triangles n n) c.args.self.now c.take_leaves.new.self t c.take_leaves.ensures c.take_triangles.ensures in
-    let o = after (λ n. star r.low) (λ n. star r.high) t c.star_at.new.self c.star_at-in-Some.new.self c.star_at.ensures c.star_at-in-Some.ensures in
+    let m = after (λ n. leaves n n) (λ n. triangles n n) c.args.self.now c.take_leaves.new.self t c.take_leaves.ensures.made c.take_triangles.ensures.made in
+    let o = after (λ n. star r.low) (λ n. star r.high) t c.star_at.new.self c.star_at-in-Some.new.self c.star_at.ensures.made c.star_at-in-Some.ensures.made in
     let f = c.index-r.ensures ∙ get_or_default (vec_items t.routes) c.in-Some.i r no_route (place t c.in-Some.i e) in
     record { stations = o.stations ∙ m.stations; drawn = o.drawn ∙ (sym (heaviest_some (drawn t) c.in-Some.i r e f) ∙ ap heaviest m.drawn) }

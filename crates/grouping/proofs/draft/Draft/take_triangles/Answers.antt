@@ -17,10 +17,10 @@ write_group-requires c = triangle_last c.loop-a.self c.in-Some.a c.in-Some.b c.i
 pub loop-a-smaller : goal.loop-a-smaller
 loop-a-smaller c =
     fewer c.loop-a.self c.write_group.new.self (λ n. write (Triangle c.in-Some.a c.in-Some.b c.in-Some.c))
-    (triangle_last c.loop-a.self c.in-Some.a c.in-Some.b c.in-Some.c (sym c.first_triangle.ensures ∙ c.in-Some.is)) c.write_group.ensures
+    (triangle_last c.loop-a.self c.in-Some.a c.in-Some.b c.in-Some.c (sym c.first_triangle.ensures ∙ c.in-Some.is)) c.write_group.ensures.made
 
 pub loop-a-preserved : goal.loop-a-preserved
 loop-a-preserved c =
     let d = c.loop-a.self in
-    goes_on (λ n. triangles n n) (λ n. write (Triangle c.in-Some.a c.in-Some.b c.in-Some.c)) c.args.self.now d c.write_group.new.self c.loop-a.invariant c.write_group.ensures
+    goes_on (λ n. triangles n n) (λ n. write (Triangle c.in-Some.a c.in-Some.b c.in-Some.c)) c.args.self.now d c.write_group.new.self c.loop-a.invariant c.write_group.ensures.made c.write_group.ensures.capacity
     (triangles_turn d.stations (c.in-Some.a, c.in-Some.b, c.in-Some.c) (drawn d) (ready d) (sym c.first_triangle.ensures ∙ c.in-Some.is))
