@@ -5,10 +5,9 @@ ghost use Rattle.dayfile.specs.Layout.{Reads};
 ghost use Rattle.dayfile.specs.Tables.{groups_of, routes_of};
 ghost use Rattle.dayfile.specs.Verdict.{TakenApart, packed, verdict_of};
 
-use super::layout::{Layout, MOST_ROUTES, Sections, check_layout};
+use super::layout::{Layout, Sections, check_layout};
 use super::records::Kind;
 use super::refusal::FileRefusal;
-use arrayvec::ArrayVec;
 use refusals::Refusal;
 use routes::checks::{first_incomplete, first_misplaced, first_unordered};
 use routes::route::{Group, Route};
@@ -21,7 +20,8 @@ pub fn check_file(bytes: &[u8]) -> Result<Layout, FileRefusal>
     ensures groups { JudgesGroups bytes.now result }
 {
     let sections = check_layout(bytes)?;
-    let routes = sections.ordered_routes()?;
+    let routes = sections.routes();
+    sections.check_order(&routes)?;
     let groups = sections.groups()?;
     let tables = Tables {
         sections,
@@ -42,16 +42,14 @@ pub fn day_file_check(bytes: &[u8]) -> u32
 }
 
 impl<'a> Sections<'a> {
-    // The routes of the file, or the refusal at the first that is not between two stations, or not after the one ahead of it.
+    // Each of the file's routes is between two stations, and after the one ahead of it.
     #[tactic(auto, using(crate::proofs::Stages::section_steps), unfolding(crate::specs::Check::order_verdict))]
-    fn ordered_routes(&self) -> Result<ArrayVec<Route, MOST_ROUTES>, FileRefusal>
-        ensures verdict { verdict_of result ≡ order_verdict self.now.bytes.now }
-        ensures routes { IfOk result (λ t. t.items ≡ routes_of self.now.bytes.now) }
+    fn check_order(&self, routes: &[Route]) -> Result<(), FileRefusal>
+        requires its_routes { routes.now ≡ routes_of self.now.bytes.now }
+        ensures { verdict_of result ≡ order_verdict self.now.bytes.now }
     {
-        let routes = self.routes();
-        let found = first_unordered(self.layout.stations, &routes);
-        self.span(Kind::Routes).refuse(Refusal::RouteOrder, found)?;
-        Ok(routes)
+        let found = first_unordered(self.layout.stations, routes);
+        self.span(Kind::Routes).refuse(Refusal::RouteOrder, found)
     }
 }
 

@@ -2,3 +2,4 @@ pub mod Firsts
 pub mod Lists
 pub mod Orders
 pub mod Decompositions
+pub mod Notes

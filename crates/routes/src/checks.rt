@@ -1,12 +1,13 @@
 // The checks of routes and groups: the first route out of order, the first that does not fit its
 // group, the first group that is not whole.
 ghost use Rattle.std.specs.Prelude.{◌≡◌, ◌<◌, ◌↔◌, true, length, None, Decides};
-ghost use Rattle.std.specs.List.{list_any};
 ghost use Rattle.routes.specs.Tests.{LowestFailing};
 ghost use Rattle.routes.specs.Order.{ends, ordered, in_order, first_unordered};
-ghost use Rattle.routes.specs.Groups.{is_in, has_side, whole, placed_at, whole_at, first_misplaced, first_incomplete, decomposed};
+ghost use Rattle.routes.specs.Groups.{has_side, whole, placed_at, whole_at, first_misplaced, first_incomplete, decomposed};
+ghost use Rattle.routes.specs.Members.{Notes};
 ghost use Rattle.routes.specs.Decomposition.{Decomposition};
 
+use crate::members::Members;
 use crate::route::{Group, Route};
 
 // The place of the first route that is not between two stations, its lower end first, or not after the route ahead of it.
@@ -39,10 +40,12 @@ pub fn first_incomplete(routes: &[Route], groups: &[Group]) -> Option<usize>
     ensures place { result ≡ first_incomplete routes.now groups.now }
     ensures lowest { LowestFailing (whole_at routes.now groups.now) (length groups.now) result }
 {
-    groups
-        .iter()
-        .enumerate()
-        .position(|(number, group)| !group.is_whole(number, routes))
+    // Where none are given the routes are not walked over.
+    if groups.is_empty() {
+        return None;
+    }
+    let members = Members::of(routes);
+    groups.iter().enumerate().position(|(number, group)| !group.is_whole(number, routes, &members))
 }
 
 // Whether the groups are an edge decomposition of the routes.
@@ -55,11 +58,12 @@ pub fn is_decomposition(routes: &[Route], groups: &[Group]) -> bool
 
 impl Group {
     // Whether the group of this number has the routes that it must have: one at least of a star, the three of a triangle.
-    fn is_whole(self, number: usize, routes: &[Route]) -> bool
+    fn is_whole(self, number: usize, routes: &[Route], members: &Members) -> bool
+        requires { Notes members.now.present routes.now }
         ensures { result ≡ whole self number routes.now }
     {
         match self {
-            Group::Star(_) => has_member(routes, number),
+            Group::Star(_) => members.has(number),
             Group::Triangle(a, b, c) => {
                 has_side(routes, number, a, b)
                     && has_side(routes, number, a, c)
@@ -69,18 +73,11 @@ impl Group {
     }
 }
 
-// Whether the group of this number has a route.
-fn has_member(routes: &[Route], number: usize) -> bool
-    ensures { result ≡ list_any (is_in number) routes.now }
-{
-    routes.iter().any(|route| route.is_in(number))
-}
-
 // Whether the group of this number has the side from a to b.
 fn has_side(routes: &[Route], number: usize, a: u8, b: u8) -> bool
     ensures { result ≡ has_side routes.now number a b }
 {
     routes
         .iter()
-        .any(|route| route.is_in(number) && route.is_side(a, b))
+        .any(|route| route.is_side(a, b) && route.is_in(number))
 }

@@ -2,4 +2,5 @@
 #![tactic(auto)]
 
 pub mod checks;
+mod members;
 pub mod route;
