@@ -7,7 +7,7 @@ use Rattle.order.specs.declared.kinds.Relation.{Relation}
 use Rattle.book.specs.declared.offer.Offer.{Offer}
 use Rattle.book.specs.declared.floor.Floor.{Floor}
 use Rattle.book.specs.Shown.{shown, settled_in, row_count, present_count}
-use Rattle.book.specs.Calls.{Opened, Offered, Settled, Withdrawn, Related, StampRead, LastRead}
+use Rattle.book.specs.Calls.{Opened, Offered, Settled, HandedOver, Withdrawn, Related, StampRead, LastRead}
 
 -- two floors show the same: their plan, their rows and states, and each count at a dial of the plan
 pub record ShowsSame {X : Type 0} (meaning : X → Meaning) (f f' : Floor X) : Type 0 where
@@ -28,6 +28,8 @@ pub record OneOutcome {X : Type 0} (meaning : X → Meaning) : Type 0 where
       → Offered meaning f g t r₁ f₁ → Offered meaning f g t r₂ f₂ → SameOutcome meaning r₁ f₁ r₂ f₂
   pub settles : (f f₁ f₂ : Floor X) (o : Offer) (r₁ r₂ : Result ℕ (Refusal × Offer))
       → Settled meaning f o r₁ f₁ → Settled meaning f o r₂ f₂ → SameOutcome meaning r₁ f₁ r₂ f₂
+  pub hands_over : (f f₁ f₂ : Floor X) (g t : ℕ) (r₁ r₂ : Result ℕ Refusal)
+      → HandedOver meaning f g t r₁ f₁ → HandedOver meaning f g t r₂ f₂ → SameOutcome meaning r₁ f₁ r₂ f₂
   pub withdraws : (f f₁ f₂ : Floor X) (o : Offer) (r₁ r₂ : Result (Unit {0}) Refusal)
       → Withdrawn meaning f o r₁ f₁ → Withdrawn meaning f o r₂ f₂ → SameOutcome meaning r₁ f₁ r₂ f₂
   pub relates : (f : Floor X) (a b : ℕ) (r₁ r₂ : Result Relation Refusal) → Related meaning f a b r₁ → Related meaning f a b r₂ → r₁ ≡ r₂
