@@ -1,15 +1,34 @@
 // Reads a day file from standard input, and prints its floor: stations, counts, and each group with its routes.
 #![tactic(auto)]
 
+ghost use Rattle.std.specs.Prelude.{◌≤◌, length, IfOk};
+
 use dayfile::layout::MOST_BYTES;
 use dayfile::refusal::FileRefusal;
 use floortext::room::FloorRoom;
 use refusals::Refusal;
+use std::io;
 use std::io::{Read, Write};
 use std::process::ExitCode;
 
 // One more than the longest file, so that a longer one is seen to be too long without being kept.
 const MOST: usize = MOST_BYTES + 1;
+
+// Reads until the buffer is full or the input ends, and says how many bytes there are. A loop over `read`: what the
+// library reads to the end goes into a vector, which asks for memory, and its `copy` has a buffer of its own.
+fn fill(input: &mut impl Read, buf: &mut [u8]) -> io::Result<usize>
+    ensures { IfOk result (λ n. n ≤ length buf.new) }
+{
+    let mut len = 0;
+    while len < buf.len() {
+        let k = input.read(&mut buf[len..])?;
+        if k == 0 {
+            break;
+        }
+        len += k;
+    }
+    Ok(len)
+}
 
 // What is wrong with a refused file, and what to do: the words that this program has always printed,
 // which are not those of `Refusal::advice`.
@@ -44,9 +63,9 @@ fn explain(rt: &HostRuntime, e: FileRefusal) {
 
 fn run(rt: &HostRuntime) -> anyhow::Result<()> {
     let mut room = FloorRoom::new(rt.alloc())?;
-    let mut bytes = Vec::with_capacity(rt.alloc(), MOST)?;
-    rt.stdin().take(MOST as u64).read_to_end(&mut bytes)?;
-    let verdict = room.print(&bytes);
+    let mut bytes = [0; MOST];
+    let len = fill(&mut rt.stdin(), &mut bytes)?;
+    let verdict = room.print(&bytes[..len]);
     rt.stdout().write_all(room.text())?;
     if let Err(e) = verdict {
         explain(rt, e);

@@ -17,15 +17,21 @@ fn numbers(rt: &HostRuntime) -> anyhow::Result<[u32; 3]> {
     Ok(found)
 }
 
-// Handovers between neighbours, round and round.
+// Handovers between neighbours, round and round, each offered and settled by a call of its own: the two whose cost is
+// measured.
 fn hand_over(floor: &mut Floor<StationPlan>, stations: u8, count: u32) -> u32 {
     let mut settled = 0u32;
     let mut giver = 0u8;
     for _ in 0..count {
         let next = giver.saturating_add(1);
         let taker = if next < stations { next } else { 0 };
-        if floor.hand_over(giver, taker).is_ok() {
-            settled = settled.saturating_add(1);
+        if let Ok(offer) = floor.offer(giver, taker) {
+            match floor.settle(offer) {
+                Ok(_) => settled = settled.saturating_add(1),
+                Err((_, back)) => {
+                    let _ = floor.withdraw(back);
+                }
+            }
         }
         giver = taker;
     }
