@@ -1,21 +1,42 @@
-use Rattle.std.proofs.Common.{◌≡◌, MatchOption, None, vec_items, subst, rules}
-use borrow.Author.Tests.{tests}
-use Rattle.std.specs.Bool.{then_some}
-use Rattle.std.specs.Slice.{IsItemAt}
+use Rattle.std.proofs.Common.{◌≡◌, ℕ, ◌+◌, ◌-◌, ◌/◌, ◌<◌, true, false, length, vec_items, sym, ⊎_elim, arith}
+use Rattle.std.proofs.lemmas.Bool.Decides.{nat_tests}
+use Rattle.std.proofs.lemmas.Bool.{cases_lt}
+use Rattle.routes.specs.Order.{before, pair}
 use Rattle.routes.specs.Groups.{side}
+use Rattle.regrouping.proofs.Finds.{from_none}
 use Rattle.grouping.proofs.Drafts.{ascends}
-use Rattle.grouping.proofs.Searches.{ends_at, read_there}
+use Rattle.grouping.proofs.Searches.{found_there, none_up_to, none_from_there}
 use Rattle.grouping.proofs.draft.Draft.find_route.Goals as goal
+
+pub returns-then-r-high : goal.returns-then-r-high
+returns-then-r-high c =
+    let d = c.args.self.now in
+    let t = vec_items d.routes in
+    let m : ℕ = c.loop-start.start + (c.loop-start.end - c.loop-start.start) / 2 in
+    let h : m < length t = omega (arith, c.loop-start.invariant.0) in
+    let s : side c.args.low c.args.high c.index-r.result.now ≡ true = grind (arith, nat_tests) in
+    found_there t c.args.low c.args.high m (ascends d) h c.index-r.result.now c.index-r.ensures s
+
+pub loop-start-preserved-then-r-high-2 : goal.loop-start-preserved-then-r-high-2
+loop-start-preserved-then-r-high-2 c =
+    let d = c.args.self.now in
+    let t = vec_items d.routes in
+    let m : ℕ = c.loop-start.start + (c.loop-start.end - c.loop-start.start) / 2 in
+    let h : m < length t = omega (arith, c.loop-start.invariant.0) in
+    let l : before (pair c.index-r.result.now) (c.args.low, c.args.high) ≡ true = grind (arith, nat_tests) in
+    (c.loop-start.invariant.0, none_up_to t c.args.low c.args.high m (ascends d) h c.index-r.result.now c.index-r.ensures l, c.loop-start.invariant.2)
+
+pub loop-start-preserved : goal.loop-start-preserved
+loop-start-preserved c =
+    let d = c.args.self.now in
+    let t = vec_items d.routes in
+    let m : ℕ = c.loop-start.start + (c.loop-start.end - c.loop-start.start) / 2 in
+    let h : m < length t = omega (arith, c.loop-start.invariant.0) in
+    let s : side c.args.low c.args.high c.index-r.result.now ≡ false = grind (arith, nat_tests) in
+    let l : before (pair c.index-r.result.now) (c.args.low, c.args.high) ≡ false = grind (arith, nat_tests) in
+    (omega (arith, h), c.loop-start.invariant.1, none_from_there t c.args.low c.args.high m (ascends d) h c.index-r.result.now c.index-r.ensures s l)
 
 pub returns : goal.returns
 returns c =
-    let d = c.args.self.now in
-    let t = vec_items d.routes in
-    let a = c.args.low in
-    let b = c.args.high in
-    let i = c.partition_point-place.result in
-    let p = ends_at c.deref.result.now t a b i c.deref.ensures.value (ascends d) c.partition_point-place.ensures.partitioned (λ x y f k. search (rules, tests)) in
-    let h : IsItemAt t i c.get.result = search rules in
-    let x = c.filter.result in
-    let m : MatchOption c.copied.result (x ≡ None) (λ r. x ≡ then_some (side a b r) r) = search (rules, tests) in
-    read_there t a b (ascends d) i p c.get.result x h (subst (λ o. MatchOption o (x ≡ None) (λ r. x ≡ then_some (side a b r) r)) c.copied.ensures m)
+    sym (from_none (vec_items c.args.self.now.routes) c.args.low c.args.high
+    (λ k h. ⊎_elim (λ q. c.loop-start.invariant.1 k q) (λ q. c.loop-start.invariant.2 k (omega arith) h) (cases_lt k c.loop-start.start)))
