@@ -44,7 +44,8 @@ pub sheet_by : (bs text : List ℕ) {v : Option FileRefusal} → v ≡ file_verd
 sheet_by bs text e t = subst (λ (o : Option FileRefusal). TextBy bs o text) e t
 
 -- the line of the refusal, in an empty buffer that has room for it
-pub refused_sheet : (bs : List ℕ) (e : FileRefusal) {Z : Type 0} {v w : Vec ℕ Z} → vec_items v ≡ [] → 230000 ≤ vec_capacity v
-    → Some e ≡ file_verdict bs → e.place < 2 ^ 16 → Takes Room Added v (refused_file_line (number e.refusal) e.place) w → IsSheet bs (vec_items w)
-refused_sheet bs e {v = v} empty roomy is small a =
-    sheet_by bs _ is (added_alone (a (omega (arith, roomy, ap length empty, refused_file_le e.refusal e.place small))) empty)
+pub refused_sheet : (bs : List ℕ) (e : FileRefusal) {Z : Type 0} {v w : Vec ℕ Z} {n place : ℕ} → vec_items v ≡ [] → 230000 ≤ vec_capacity v
+    → Some e ≡ file_verdict bs → e.place < 2 ^ 16 → Takes Room Added v (refused_file_line n place) w → n ≡ number e.refusal → place ≡ e.place → IsSheet bs (vec_items w)
+refused_sheet bs e {v = v} {w = w} {place = place} empty roomy is small a named placed =
+    let line : Takes Room Added v (refused_file_line (number e.refusal) e.place) w = subst (λ (p : ℕ). Takes Room Added v (refused_file_line (number e.refusal) p) w) placed (subst (λ (m : ℕ). Takes Room Added v (refused_file_line m place) w) named a) in
+    sheet_by bs _ is (added_alone (line (omega (arith, roomy, ap length empty, refused_file_le e.refusal e.place small))) empty)

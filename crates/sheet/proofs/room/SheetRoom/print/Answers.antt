@@ -27,4 +27,4 @@ returns c =
 pub returns-in-Err-clause-sheet : goal.returns-in-Err-clause-sheet
 returns-in-Err-clause-sheet c =
     let v = c.in-Err.ensures.verdict ∙ ap (λ (b : Bor (List ℕ)). file_verdict b.now) c.open-file.ensures in
-    refused_sheet c.args.bytes.now c.in-Err.e c.args.self.empty c.args.self.roomy v (search rules) c.put.ensures
+    refused_sheet c.args.bytes.now c.in-Err.e c.args.self.empty c.args.self.roomy v (search rules) c.put.ensures (search rules) (search rules)
