@@ -8,6 +8,7 @@ ghost use Rattle.dayfile.specs.Verdict.{TakenApart, packed, verdict_of};
 use super::layout::{Layout, Sections, check_layout};
 use super::records::Kind;
 use super::refusal::FileRefusal;
+use arrayvec::ArrayVec;
 use refusals::Refusal;
 use routes::checks::{first_incomplete, first_misplaced, first_unordered};
 use routes::route::{Group, Route};
@@ -20,9 +21,11 @@ pub fn check_file(bytes: &[u8]) -> Result<Layout, FileRefusal>
     ensures groups { JudgesGroups bytes.now result }
 {
     let sections = check_layout(bytes)?;
-    let routes = sections.routes();
+    let mut routes = ArrayVec::new();
+    sections.put_routes(&mut routes);
     sections.check_order(&routes)?;
-    let groups = sections.groups()?;
+    let mut groups = ArrayVec::new();
+    sections.put_groups(&mut groups)?;
     let tables = Tables {
         sections,
         routes: &routes,

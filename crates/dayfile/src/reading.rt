@@ -8,6 +8,7 @@ ghost use Rattle.std.specs.Prelude.{◌≡◌, None};
 use super::file::DayFile;
 use super::layout::Sections;
 use super::refusal::FileRefusal;
+use arrayvec::ArrayVec;
 use grouping::plan::GroupPlan;
 
 impl<'a> DayFile<'a> {
@@ -28,8 +29,10 @@ impl<'a> Sections<'a> {
         requires { file_verdict self.now.bytes.now ≡ None }
         ensures { contents plan.new ≡ file_contents self.now.bytes.now }
     {
-        let routes = self.routes();
-        let groups = self.groups().unwrap();
+        let mut routes = ArrayVec::new();
+        self.put_routes(&mut routes);
+        let mut groups = ArrayVec::new();
+        self.put_groups(&mut groups).unwrap();
         if groups.is_empty() {
             plan.fill_routes(self.layout.stations, &routes).unwrap();
         } else {

@@ -1,5 +1,5 @@
 // The tables of a day file: its routes and groups, out of their records.
-ghost use Rattle.std.specs.Prelude.{◌≡◌, ℕ, ◌+◌, ◌*◌, ◌<◌, ◌≤◌, length, IfOk, Some, None, if◌then◌else◌};
+ghost use Rattle.std.specs.Prelude.{◌≡◌, ℕ, ◌+◌, ◌*◌, ◌<◌, ◌≤◌, [], length, OnOk, Some, None, if◌then◌else◌};
 ghost use Rattle.dayfile.specs.Check.{record_verdict};
 ghost use Rattle.dayfile.specs.Records.{part_at, part_of};
 ghost use Rattle.dayfile.specs.Tables.{group_at, group_place, groups_of, is_group_record, route_at, route_place, routes_of, Stands};
@@ -41,33 +41,35 @@ impl<'a> Sections<'a> {
         self.bytes[section.start..section.end()].chunks_exact(section.size)
     }
 
-    // The routes of the file.
+    // Puts the routes of the file into a table that has none yet: one that is handed out would be copied.
     #[tactic(auto, using(crate::proofs::Stages::table_steps), unfolding(crate::specs::Tables::routes_of))]
-    pub(crate) fn routes(&self) -> ArrayVec<Route, MOST_ROUTES>
-        ensures { result.items ≡ routes_of self.now.bytes.now }
+    pub(crate) fn put_routes(&self, routes: &mut ArrayVec<Route, MOST_ROUTES>)
+        requires { routes.old.items ≡ [] }
+        ensures { routes.new.items ≡ routes_of self.now.bytes.now }
     {
-        let mut routes = ArrayVec::new();
         for record in self.records(self.span(Kind::Routes)) {
             routes.push(self.route(record));
         }
-        routes
     }
 
-    // The groups of the file, or the refusal at the first record that is neither a star's nor a triangle's.
+    // Puts the groups of the file into a table that has none yet, up to the first record that is neither a star's nor a triangle's, which is refused.
     #[tactic(auto, using(crate::proofs::Stages::table_steps), unfolding(crate::specs::Tables::groups_of))]
-    pub(crate) fn groups(&self) -> Result<ArrayVec<Group, MOST_GROUPS>, FileRefusal>
+    pub(crate) fn put_groups(
+        &self,
+        groups: &mut ArrayVec<Group, MOST_GROUPS>,
+    ) -> Result<(), FileRefusal>
+        requires { groups.old.items ≡ [] }
         ensures verdict { verdict_of result ≡ record_verdict self.now.bytes.now }
-        ensures groups { IfOk result (λ t. t.items ≡ groups_of self.now.bytes.now) }
+        ensures groups { OnOk result (groups.new.items ≡ groups_of self.now.bytes.now) }
     {
         let section = self.span(Kind::Groups);
-        let mut groups = ArrayVec::new();
         for record in self.records(section) {
             let group = self
                 .group(record)
                 .ok_or(section.refusal(Refusal::GroupRecord, groups.len()))?;
             groups.push(group);
         }
-        Ok(groups)
+        Ok(())
     }
 
     // The route of a record: its lower end, its higher end, its group.

@@ -2,7 +2,7 @@ use Rattle.std.proofs.Common.{◌≡◌, ◌+◌, ◌*◌, ℕ, ◌<◌, true, m
 use Rattle.std.specs.List.{range_with_len}
 use Rattle.std.specs.Slice.Iter.{chunks_exact_rest, chunks_exact_size}
 use Rattle.dayfile.specs.Tables.{Stands, group_at, group_place, group_count, is_group_record}
-use Rattle.dayfile.proofs.layout.Sections.groups.Given as goal
+use Rattle.dayfile.proofs.layout.Sections.put_groups.Given as goal
 
 abbrev pub invariant-loop-record : goal.invariant-loop-record
 invariant-loop-record l =

@@ -2,7 +2,7 @@ use Rattle.std.proofs.Common.{◌≡◌, true, length, ap, length-append, arith,
 use Rattle.std.specs.Slice.Iter.{chunks_exact_rest}
 use Rattle.dayfile.specs.Tables.{group_at, group_place, is_group_record}
 use Rattle.dayfile.proofs.Stages.{first_stands, rest_stands, table_grows, stops_at_group, all_groups}
-use Rattle.dayfile.proofs.layout.Sections.groups.Goals as goal
+use Rattle.dayfile.proofs.layout.Sections.put_groups.Goals as goal
 
 pub returns-in_err-group-clause-verdict : goal.returns-in_err-group-clause-verdict
 returns-in_err-group-clause-verdict c =

@@ -2,7 +2,7 @@ use Rattle.std.proofs.Common.{◌≡◌, ◌+◌, ◌*◌, map, length}
 use Rattle.std.specs.List.{range_with_len}
 use Rattle.std.specs.Slice.Iter.{chunks_exact_rest, chunks_exact_size}
 use Rattle.dayfile.specs.Tables.{Stands, route_at, route_place, route_count}
-use Rattle.dayfile.proofs.layout.Sections.routes.Given as goal
+use Rattle.dayfile.proofs.layout.Sections.put_routes.Given as goal
 
 abbrev pub invariant-loop-record : goal.invariant-loop-record
 invariant-loop-record l =

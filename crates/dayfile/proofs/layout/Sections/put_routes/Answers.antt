@@ -2,7 +2,7 @@ use Rattle.std.proofs.Common.{length, ap, length-append, arith, rules}
 use Rattle.std.specs.Slice.Iter.{chunks_exact_rest}
 use Rattle.dayfile.specs.Tables.{route_at, route_place}
 use Rattle.dayfile.proofs.Stages.{first_stands, rest_stands, table_grows}
-use Rattle.dayfile.proofs.layout.Sections.routes.Goals as goal
+use Rattle.dayfile.proofs.layout.Sections.put_routes.Goals as goal
 
 pub loop-record-preserved : goal.loop-record-preserved
 loop-record-preserved c =
